@@ -1,0 +1,5 @@
+pub mod Numbers
+pub mod Route
+pub mod Meant
+pub mod Laws
+pub mod Steps
