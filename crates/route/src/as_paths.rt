@@ -2,7 +2,7 @@
 ghost use mathlib.Core.Bool.{cond, false, _&&_};
 ghost use mathlib.Core.List.{_++_};
 ghost use mathlib.Core.Path.{_≡_};
-ghost use Prim.Native.Nat.{_+_, _-_, _≤_};
+ghost use Prim.Native.Nat.{_-_, _≤_, _<_};
 ghost use lib.Dec.{leb, ltb};
 ghost use lib.ListN.{drop, length, take};
 ghost use Rattle.route.specs.Meant.{asnsOf};
@@ -38,14 +38,16 @@ impl Path {
 
     // How many networks the path has.
     pub fn len(&self) -> usize
-        ensures { λ r. ⌜ r ≡ length (asnsOf (now (self .entry))) ⌝ }
+        ensures value { λ r. ⌜ r ≡ length (asnsOf (now (self .entry))) ⌝ }
+        ensures bound { λ r. ⌜ 0 < r ⌝ ∗ ⌜ r ≤ 32 ⌝ }
     {
-        self.asns().len()
+        let _ = end_law();
+        32 - self.start
     }
 
     // Puts `asn` in front so many times. A path that would have more than 32 networks is left as it is, and the answer is false.
     pub fn prepend(&mut self, asn: u32, times: u8) -> bool
-        ensures fits { λ r. ⌜ r ≡ leb (times + length (asnsOf (now (self .entry)))) 32 ⌝ }
+        ensures fits { λ r. ⌜ r ≡ leb (length (prepended asn times (asnsOf (now (self .entry))))) 32 ⌝ }
         ensures path { λ r. ⌜ asnsOf (now (self .exit)) ≡ cond r (prepended asn times (asnsOf (now (self .entry)))) (asnsOf (now (self .entry))) ⌝ }
     {
         let _ = end_law();

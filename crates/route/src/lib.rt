@@ -11,6 +11,7 @@ mod community_rows;
 mod laws;
 
 pub use among::is_among;
+pub use laws::formed_law;
 pub use laws::row_laws;
 use prefix::Prefix;
 

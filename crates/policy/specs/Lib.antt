@@ -1,0 +1,4 @@
+pub mod Policy
+pub mod Laws
+pub mod Meant
+pub mod Steps
