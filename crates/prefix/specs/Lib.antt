@@ -1,2 +1,4 @@
 pub mod Prefix
 pub mod Meant
+pub mod Laws
+pub mod Steps

@@ -4,6 +4,11 @@ ghost use mathlib.Core.Path.{_≡_};
 ghost use Rattle.prefix.specs.Prefix.{isPrefix};
 
 mod methods;
+mod numbers;
+
+pub use methods::prefix_laws;
+pub use numbers::COUNT;
+pub use numbers::number_laws;
 
 // The addresses whose first `length` bits are those of `address`; the bits behind are 0.
 #[derive(Clone, Copy)]

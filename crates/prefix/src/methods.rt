@@ -1,10 +1,22 @@
 // Making, reading and comparing prefixes.
 ghost use mathlib.Core.Bool.{true, false};
 ghost use mathlib.Core.Path.{_≡_};
+ghost use Rattle.prefix.specs.Laws.{Contained, Equal, Reflexive, Transitive, Whole};
 ghost use Rattle.prefix.specs.Meant.{meant};
 ghost use Rattle.prefix.specs.Prefix.{isPrefix, same, within};
 ghost use Rattle.std.specs.Options.{Cases};
 use crate::Prefix;
+
+// Which prefixes are equal, and what it says that one is within another.
+pub fn prefix_laws() -> bool
+    ensures equal { λ _. ⌜ Equal ⌝ }
+    ensures contained { λ _. ⌜ Contained ⌝ }
+    ensures reflexive { λ _. ⌜ Reflexive ⌝ }
+    ensures transitive { λ _. ⌜ Transitive ⌝ }
+    ensures whole { λ _. ⌜ Whole ⌝ }
+{
+    true
+}
 
 impl Prefix {
     // 0.0.0.0/0, which holds every prefix.
@@ -21,18 +33,20 @@ impl Prefix {
     pub fn new(address: u32, length: u8) -> Option<Prefix>
         ensures { λ r. ⌜ Cases r (isPrefix address length ≡ false) (λ p. (isPrefix address length ≡ true) × (meant p ≡ record { address = address; length = length })) ⌝ }
     {
-        if length > 24 || u64::from(address) % (1 << (32 - length)) != 0 {
+        if length > 24 || u64::from(address) % (1u64 << (32 - length)) != 0 {
             return None;
         }
         Some(Prefix { address, length })
     }
 
+    // The first address.
     pub fn address(&self) -> u32
         ensures { λ r. ⌜ r ≡ meant (now (self .entry)) .address ⌝ }
     {
         self.address
     }
 
+    // How many bits it has.
     pub fn length(&self) -> u8
         ensures { λ r. ⌜ r ≡ meant (now (self .entry)) .length ⌝ }
     {

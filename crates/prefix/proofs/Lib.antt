@@ -1,0 +1,4 @@
+pub mod Halves
+pub mod Order
+pub mod Descent
+pub mod Within

@@ -1,0 +1,3 @@
+pub mod Intended
+pub mod Meant
+pub mod Steps
