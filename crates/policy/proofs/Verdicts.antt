@@ -2,18 +2,18 @@
 use mathlib.Core.Bool.{Bool, true, false, cond, _&&_}
 use mathlib.Core.List.{List, [], _∷_, _++_}
 use mathlib.Core.Path.{_≡_, refl, sym, ap, subst, _∙_}
-use Prim.Native.Nat.{ℕ, _≤_, _<_}
+use Prim.Native.Nat.{ℕ, zero, suc, _≤_, _<_}
 use native.Mathlib.Omega.{arith}
 use lib.Dec.{leb}
-use lib.ListN.{length}
-use Rattle.std.proofs.shelf.Tests.{leb-true, cases-bool}
+use lib.ListN.{length, getD}
+use Rattle.std.proofs.shelf.Tests.{leb-true, eq-eqb, or-left, or-right}
 use Rattle.std.proofs.shelf.Ways.{tells}
 use Rattle.std.specs.declared.option.Option.the-variants.{Some, None}
 use Rattle.prefix.specs.Prefix.{Prefix}
 use Rattle.route.proofs.Members.{laws as rows}
 use Rattle.route.specs.Numbers.{insert, without, rising, prepended}
 use Rattle.route.specs.Route.{Route, Formed, withPath, withCommunities}
-use Rattle.policy.specs.Laws.{PolicyLaws}
+use Rattle.policy.specs.Laws.{PolicyLaws, Lengthened, prependedBy, prepends}
 use Rattle.policy.specs.Policy.{Condition, Part, partHolds, holds, Action, Accept, Reject, SetLocalPref, SetMed, AddCommunity, RemoveCommunity, Prepend, act, Clause, clauseStep, Policy, Verdict, Accepted, Rejected, Step, Decided, GoesOn, andThen, through, atEnd, verdict, accepted, evaluate}
 
 regroup : (x : Step) (f g h : Route → Step) → ((r : Route) → h r ≡ andThen (f r) g) → andThen x h ≡ andThen (andThen x f) g
@@ -109,6 +109,46 @@ formed-kept (RemoveCommunity c) r f =
 formed-kept (Prepend asn times) r f =
     of-cond Formed _ _ _ (λ fits. with-path (prepended asn times (r .path)) r f (omega (arith, rows .prepends asn times (r .path), f .path-is-some)) (leb-true _ 32 fits)) f
 
+-- only what the whole policy q prepends comes in front
+module _ (q : Policy) (base : List ℕ) where
+  record Fronted (r : Route) : Type 0 where
+    is : Lengthened q base (r .path)
+
+  more-front : (asn k : ℕ) (path : List ℕ) → prepends asn q ≡ true → Lengthened q base path → Lengthened q base (prepended asn k path)
+  unfolding prepended
+  more-front asn zero path h l = l
+  more-front asn (suc k) path h l =
+      let rest = more-front asn k path h l in
+      record {
+        front = asn ∷ rest .front;
+        whole = ap (λ t. asn ∷ t) (rest .whole);
+        prepended = λ i. elim i as (λ i. i < suc (length (rest .front)) → prepends (getD (asn ∷ rest .front) i 0) q ≡ true) [ zero ↦ λ _. h | suc i ↦ λ b. rest .prepended i (omega arith) ];
+      }
+
+  fronted-action : (a : Action) (r : Route) → ((n : ℕ) → prependedBy n a ≡ true → prepends n q ≡ true) → Fronted r → Of Fronted (act a r)
+  fronted-action Accept r sub f = f
+  fronted-action Reject r sub f = f
+  fronted-action (SetLocalPref n) r sub f = record { is = f .is }
+  fronted-action (SetMed n) r sub f = record { is = f .is }
+  fronted-action (AddCommunity c) r sub f =
+      of-cond Fronted (leb (length (insert c (r .communities))) 8) (GoesOn (withCommunities (insert c (r .communities)) r)) (Decided (Rejected r)) (λ _. record { is = f .is }) f
+  fronted-action (RemoveCommunity c) r sub f = record { is = f .is }
+  fronted-action (Prepend asn times) r sub f =
+      of-cond Fronted (leb (length (prepended asn times (r .path))) 32) (GoesOn (withPath (prepended asn times (r .path)) r)) (Decided (Rejected r))
+      (λ _. record { is = more-front asn times (r .path) (sub asn (eq-eqb asn asn refl)) (f .is) }) f
+
+  fronted : (p : Policy) (r : Route) → ((n : ℕ) → prepends n p ≡ true → prepends n q ≡ true) → Fronted r → Of Fronted (through p r)
+  unfolding through prepends
+  fronted [] r sub f = f
+  fronted (c ∷ p) r sub f =
+      of-then Fronted (clauseStep c r) (λ s. through p s)
+      (of-cond Fronted (holds (c .condition) r) (act (c .action) r) (GoesOn r) (λ _. fronted-action (c .action) r (λ n h. sub n (or-left (prependedBy n (c .action)) (prepends n p) h)) f) f)
+      (λ s g. fronted p s (λ n h. sub n (or-right (prependedBy n (c .action)) (prepends n p) h)) g)
+
+only-lengthened : (p : Policy) (r s : Route) → evaluate p r ≡ Some s → Lengthened p (r .path) (s .path)
+only-lengthened p r s e =
+    of-accepted (Fronted p (r .path)) (through p r) s (fronted p (r .path) p r (λ n h. h) (record { is = record { front = []; whole = refl; prepended = λ k h. absurd (omega arith) } })) e .is
+
 pub laws : PolicyLaws
 laws = record {
   no-clauses = no-clauses;
@@ -119,5 +159,6 @@ laws = record {
   passed-over = passed-over;
   both = both;
   same-prefix = λ p r s e. of-accepted (OfPrefix (r .prefix)) (through p r) s (of-through (OfPrefix (r .prefix)) (prefix-kept (r .prefix)) p r (record { same = refl })) e .same;
+  only-lengthened = only-lengthened;
   formed = λ p r s f e. of-accepted Formed (through p r) s (of-through Formed formed-kept p r f) e;
 }

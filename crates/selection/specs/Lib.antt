@@ -1,3 +1,4 @@
 pub mod Intended
+pub mod Laws
 pub mod Meant
 pub mod Steps

@@ -4,6 +4,7 @@ use route::Route;
 mod candidates;
 mod exporting;
 mod importing;
+mod laws;
 mod policies;
 mod selecting;
 
@@ -11,6 +12,7 @@ pub use candidates::better_of;
 pub use exporting::export;
 pub use exporting::offer;
 pub use importing::import;
+pub use laws::selection_laws;
 pub use policies::PolicySource;
 pub use selecting::select;
 
