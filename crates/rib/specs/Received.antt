@@ -26,6 +26,10 @@ updated i p x f j q = cond (eqb j i && eqb q p) x (f j q)
 abbrev pub cleared : ℕ → Received → Received
 cleared i f j q = cond (eqb j i) None (f j q)
 
+-- what counts where some peers' announcements don't
+abbrev pub heard : (ℕ → Bool) → Received → Received
+heard silent f i p = cond (silent i) None (f i p)
+
 abbrev pub isRoute : Option Route → Bool
 isRoute None = false
 isRoute (Some r) = true
@@ -43,6 +47,10 @@ stored (suc n) m f = countOf m (λ p. isRoute (f n p)) + stored n m f
 -- of the peers from m on and below n none has announced the prefix
 pub record Silent (f : Received) (p m n : ℕ) : Type 0 where
   pub none : (i : ℕ) → m ≤ i → i < n → f i p ≡ None
+
+-- nobody has announced a prefix from number a on and below b
+pub record Unannounced (f : Received) (a b : ℕ) : Type 0 where
+  pub none : (i p : ℕ) → a ≤ p → p < b → f i p ≡ None
 
 -- one and the other are the same everywhere
 abbrev pub Same : Received → Received → Type 0

@@ -1,4 +1,6 @@
 // What each peer should hold: import, selection and export.
+use peers::PeerSet;
+use rib::Rib;
 use route::Route;
 
 mod candidates;
@@ -14,7 +16,6 @@ pub use exporting::offer;
 pub use importing::import;
 pub use laws::selection_laws;
 pub use policies::PolicySource;
-pub use selecting::select;
 
 // An imported route, and the peer from which it comes.
 #[derive(Clone, Copy)]
@@ -30,4 +31,13 @@ pub struct Rank {
     path_len: usize,
     med: u32,
     peer: u8,
+}
+
+// All that goes into what a peer should hold: who is there, what each announced, and the policies. The announcements of silent peers don't count.
+pub struct View<'a, R: Rib, P: PolicySource> {
+    pub own_asn: u32,
+    pub peers: u8,
+    pub silent: PeerSet,
+    pub policies: &'a P,
+    pub rib: &'a R,
 }
