@@ -1,0 +1,5 @@
+pub mod Equality
+pub mod Telling
+pub mod Ordering
+pub mod Capacity
+pub mod Promises

@@ -1,0 +1,4 @@
+pub mod Same
+pub mod Updates
+pub mod Model
+pub mod Promise
