@@ -5,7 +5,7 @@ use mathlib.Core.Path.{_≡_, refl, sym, ap, _∙_}
 use Prim.Native.Nat.{ℕ}
 use native.Mathlib.Omega.{arith}
 use lib.Dec.{eqb}
-use Rattle.model.specs.Same.{sameRow, sameRoute, sameOption}
+use Rattle.route.specs.Same.{sameRow, sameRoute, sameOption}
 use Rattle.prefix.specs.Prefix.{Prefix, same}
 use Rattle.route.specs.Route.{Route}
 use Rattle.std.proofs.shelf.Tests.{eqb-true, eq-eqb, and-parts, and-from, both-ways}

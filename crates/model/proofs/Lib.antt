@@ -3,3 +3,4 @@ pub mod Telling
 pub mod Ordering
 pub mod Capacity
 pub mod Promises
+pub mod Lifting

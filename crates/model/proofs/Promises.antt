@@ -12,7 +12,7 @@ use Rattle.model.proofs.Ordering.{all-at, ToUp, updates-to-up, updates-ordered
 use Rattle.model.proofs.Telling.{held-append, updates-held, Fresh, fresh-append, fresh-at, updates-fresh}
 use Rattle.model.specs.Model.{Size, Event, Announces, Withdraws, Establishes, GoDown, PutInForce, Now, down, allDown, says, step, after, intendedIn, begins, news, history, holds, sent}
 use Rattle.model.specs.Promise.{At, Whole, Sends}
-use Rattle.model.specs.Same.{sameOption}
+use Rattle.route.specs.Same.{sameOption}
 use Rattle.model.specs.Updates.{Update, Held, updates, Sent, Begins, Tells, tells, heldAfter, nothing}
 use Rattle.prefix.specs.Prefix.{number}
 use Rattle.rib.specs.Received.{Received, updated, stored}

@@ -7,7 +7,7 @@ use Prim.Native.Nat.{ℕ, zero, suc, _≤_, _<_}
 use native.Mathlib.Omega.{arith}
 use lib.Dec.{eqb, ltb}
 use Rattle.model.proofs.Equality.{option-equal, option-same}
-use Rattle.model.specs.Same.{sameOption}
+use Rattle.route.specs.Same.{sameOption}
 use Rattle.model.specs.Updates.{Update, Held, tellIf, row, updates, Sent, Begins, Tells, tells, follows, heldAfter}
 use Rattle.route.specs.Route.{Route}
 use Rattle.std.proofs.shelf.Tests.{cases-bool, cond-true, cond-false}

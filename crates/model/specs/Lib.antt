@@ -1,4 +1,5 @@
-pub mod Same
 pub mod Updates
 pub mod Model
 pub mod Promise
+pub mod Chain
+pub mod Stands

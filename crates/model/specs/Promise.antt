@@ -5,7 +5,7 @@ use mathlib.Core.Path.{_≡_}
 use Prim.Native.Nat.{ℕ, _≤_, _<_}
 use lib.ListN.{length, getD}
 use Rattle.model.specs.Model.{Size, Event, Announces, Withdraws, after, intendedIn, history, holds, sent}
-use Rattle.model.specs.Same.{sameOption}
+use Rattle.route.specs.Same.{sameOption}
 use Rattle.model.specs.Updates.{Update, Sent, Tells, heldAfter, nothing, inOrder}
 use Rattle.prefix.specs.Prefix.{number}
 use Rattle.rib.specs.Received.{stored}

@@ -9,11 +9,13 @@ mod among;
 mod as_paths;
 mod community_rows;
 mod laws;
+mod sameness;
 
 pub use among::is_among;
 pub use laws::formed_law;
 pub use laws::row_laws;
 use prefix::Prefix;
+pub use sameness::same_option;
 
 // An AS path of 1 to 32 networks, the nearest first. It stands at the end of the array, so that the room in front takes what is prepended.
 #[derive(Clone, Copy)]
