@@ -34,6 +34,7 @@ pub struct Rank {
 }
 
 // All that goes into what a peer should hold: who is there, what each announced, and the policies. The announcements of silent peers don't count.
+#[derive(Drop)]
 pub struct View<'a, R: Rib, P: PolicySource> {
     pub own_asn: u32,
     pub peers: u8,
