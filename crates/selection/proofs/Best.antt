@@ -215,7 +215,7 @@ formed rules n received j p y f e =
     let offer : Formed (given-to rules c) = record { prefix-is-one = route .prefix-is-one; path-is-some = omega arith; path-is-short = was .2 .short; communities-are-few = route .communities-are-few; communities-rise = route .communities-rise } in
     subst Formed (sym (was .2 .is)) (preferred 0 (was .2 .accepted) (policies .formed (rules .exports j) (given-to rules c) (was .2 .accepted) offer (was .2 .made)))
 
-same-selected : (rules : Rules) (f g : Received) (p n : ℕ) → ((i : ℕ) → f i p ≡ g i p) → selected rules f p n ≡ selected rules g p n
+pub same-selected : (rules : Rules) (f g : Received) (p n : ℕ) → ((i : ℕ) → f i p ≡ g i p) → selected rules f p n ≡ selected rules g p n
 unfolding selected
 same-selected rules f g p zero e = refl
 same-selected rules f g p (suc n) e = λ i. orBetter n (imported rules n (e n i)) (same-selected rules f g p n e i)
