@@ -122,7 +122,7 @@ step-alike z (GoDown is) s t a = all-down-alike z is s t a
 step-alike z (PutInForce imports exports) s t a = record { own = a .own; imports = λ i h. refl; exports = λ i h. refl; up = a .up; received = a .received }
 
 -- the same is told where the same was and is to be held
-row-cong : (j : ℕ) (old old′ new new′ : ℕ → Option Route) (m : ℕ) → ((p : ℕ) → p < m → old p ≡ old′ p) → ((p : ℕ) → p < m → new p ≡ new′ p) → row j old new m ≡ row j old′ new′ m
+pub row-cong : (j : ℕ) (old old′ new new′ : ℕ → Option Route) (m : ℕ) → ((p : ℕ) → p < m → old p ≡ old′ p) → ((p : ℕ) → p < m → new p ≡ new′ p) → row j old new m ≡ row j old′ new′ m
 unfolding row
 row-cong j old old′ new new′ zero a e = refl
 row-cong j old old′ new new′ (suc m) a e = λ i. row-cong j old old′ new new′ m (λ p h. a p (omega arith)) (λ p h. e p (omega arith)) i ++ tellIf j m (a m (omega arith) i) (e m (omega arith) i)

@@ -13,7 +13,7 @@ ghost use Rattle.selection.specs.Meant.{candidateOf, rulesOf};
 ghost use Rattle.server.specs.Facts.{Kept, SelectedHeard};
 ghost use Rattle.std.specs.Options.{mapped};
 ghost use Rattle.std.specs.Orderings.{When};
-ghost use Rattle.std.specs.declared.option.Option.the-variants.{Some};
+ghost use Rattle.std.specs.declared.option.Option.the-variants.{None, Some};
 use crate::Server;
 use peers::PeerSet;
 use prefix::Prefix;
@@ -64,6 +64,17 @@ impl<R: Rib, P: PolicySource> Server<R, P> {
         let new = self.offer(prefix);
         tell_prefix(sink, &self.up, &self.policies, self.peers, &Offers { prefix, old, new });
         true
+    }
+
+    // Forgets what the peer announced of the prefix, and tells all what is new of it.
+    pub(crate) fn forget<S: Sink>(&mut self, sink: &mut S, peer: u8, prefix: Prefix)
+        ensures same { λ _. ⌜ (now (self .exit) .«own_asn» ≡ now (self .entry) .«own_asn») × (now (self .exit) .peers ≡ now (self .entry) .peers) × (now (self .exit) .policies ≡ now (self .entry) .policies) × (now (self .exit) .up ≡ now (self .entry) .up) ⌝ }
+        ensures after { λ _. ⌜ Kept (S·Sink .sends) (rulesOf (now (self .entry) .«own_asn») (P·PolicySource .imports (now (self .entry) .policies)) (P·PolicySource .exports (now (self .entry) .policies))) (now (self .entry) .peers) (isMember (now (self .entry) .up)) peer (number (meant prefix)) None (R·Rib .received (now (self .entry) .rib)) (R·Rib .received (now (self .exit) .rib)) (now (sink .entry)) (now (sink .exit)) ⌝ }
+    {
+        let old = self.offer(prefix);
+        self.rib.remove(peer, prefix);
+        let new = self.offer(prefix);
+        tell_prefix(sink, &self.up, &self.policies, self.peers, &Offers { prefix, old, new });
     }
 
     fn heard_law(&self, silent: &PeerSet, prefix: Prefix) -> bool

@@ -3,6 +3,7 @@ use peers::PeerSet;
 use rib::Rib;
 use selection::PolicySource;
 
+mod changes;
 mod inner;
 
 // What the server goes by: whose session is up, what each peer last announced, and the policies. It remembers nothing of what it told.
