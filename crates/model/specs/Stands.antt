@@ -7,7 +7,7 @@ use Rattle.model.specs.Chain.{Chain}
 use Rattle.model.specs.Model.{Size, Event, Now, step, after, intendedIn, begins, news, sent}
 use Rattle.model.specs.Promise.{Whole, Sends}
 use Rattle.model.specs.Updates.{Update, Held, updates, heldAfter}
-use Rattle.rib.specs.Received.{stored}
+use Rattle.rib.specs.Received.{mostPeers, stored}
 use Rattle.selection.specs.Intended.{Rules}
 use Rattle.std.specs.declared.option.Option.the-variants.{None}
 
@@ -19,8 +19,9 @@ pub record Alike (z : Size) (s t : Now) : Type 0 where
   pub up : (i : ℕ) → i < z .peers → s .up i ≡ t .up i
   pub received : (i p : ℕ) → i < z .peers → p < z .prefixes → s .received i p ≡ t .received i p
 
--- no session is up but those of peers, no announcement is kept but of sessions that are up, and no more than there is room for
+-- there are at most 64 peers, no session is up but theirs, no announcement is kept but of sessions that are up, and no more than there is room for
 pub record Sound (z : Size) (s : Now) : Type 0 where
+  pub few : z .peers ≤ mostPeers
   pub outside : (i : ℕ) → z .peers ≤ i → s .up i ≡ false
   pub silent : (i p : ℕ) → s .up i ≡ false → s .received i p ≡ None
   pub fits : stored (z .peers) (z .prefixes) (s .received) ≤ z .capacity

@@ -1,1 +1,3 @@
 pub mod Hearing
+pub mod Rows
+pub mod Steps
