@@ -1,3 +1,4 @@
 pub mod Hearing
 pub mod Rows
 pub mod Steps
+pub mod Promised

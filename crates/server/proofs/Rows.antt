@@ -56,8 +56,8 @@ updates-to-peer m k up old new (suc n) l u h =
     ⊎-elim
     (λ e. ap (λ us. us ++ cond (up n) (row n (old n) (new n) m) []) (nobody-below n (λ j q b c. h j q (λ f. absurd (omega arith)) (omega arith) c)) ∙ cond-true (up n) _ [] (ap up e ∙ u) ∙ ap (λ j. row j (old j) (new j) m) e)
     (λ ne.
-      let quiet : cond (up n) (row n (old n) (new n) m) [] ≡ [] = ⊎-elim (λ v. cond-true (up n) _ [] v ∙ row-none n (old n) (new n) m (λ q b. h n q ne (omega arith) b)) (λ v. cond-false (up n) _ [] v) (cases-bool (up n)) in
-      ap (λ us. updates m up old new n ++ us) quiet ∙ append-nil (updates m up old new n) ∙ updates-to-peer m k up old new n (omega arith) u (λ j q f b. h j q f (omega arith)))
+    let quiet : cond (up n) (row n (old n) (new n) m) [] ≡ [] = ⊎-elim (λ v. cond-true (up n) _ [] v ∙ row-none n (old n) (new n) m (λ q b. h n q ne (omega arith) b)) (λ v. cond-false (up n) _ [] v) (cases-bool (up n)) in
+    ap (λ us. updates m up old new n ++ us) quiet ∙ append-nil (updates m up old new n) ∙ updates-to-peer m k up old new n (omega arith) u (λ j q f b. h j q f (omega arith)))
     (cases-eq n k)
   where
     nobody-below : (n : ℕ) → ((j q : ℕ) → j < n → q < m → old j q ≡ new j q) → updates m up old new n ≡ []

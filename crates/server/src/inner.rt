@@ -62,7 +62,13 @@ impl<R: Rib, P: PolicySource> Server<R, P> {
             return false;
         }
         let new = self.offer(prefix);
-        tell_prefix(sink, &self.up, &self.policies, self.peers, &Offers { prefix, old, new });
+        tell_prefix(
+            sink,
+            &self.up,
+            &self.policies,
+            self.peers,
+            &Offers { prefix, old, new },
+        );
         true
     }
 
@@ -74,7 +80,13 @@ impl<R: Rib, P: PolicySource> Server<R, P> {
         let old = self.offer(prefix);
         self.rib.remove(peer, prefix);
         let new = self.offer(prefix);
-        tell_prefix(sink, &self.up, &self.policies, self.peers, &Offers { prefix, old, new });
+        tell_prefix(
+            sink,
+            &self.up,
+            &self.policies,
+            self.peers,
+            &Offers { prefix, old, new },
+        );
     }
 
     fn heard_law(&self, silent: &PeerSet, prefix: Prefix) -> bool

@@ -4,6 +4,7 @@ use rib::Rib;
 use selection::PolicySource;
 
 mod changes;
+mod events;
 mod inner;
 
 // What the server goes by: whose session is up, what each peer last announced, and the policies. It remembers nothing of what it told.
