@@ -43,3 +43,10 @@ pub record Sends (z : Size) (rules : Rules) (e : Event) (es : List Event) : Type
   pub ordered : inOrder (sent z rules e es) ≡ true
   -- nothing goes to a peer whose session is down, or that isn't there
   pub only-up : (k : ℕ) (u : Update) → k < length (sent z rules e es) → getD (sent z rules e es) k u ≡ u → (u .peer < z .peers) × (after z rules (e ∷ es) .up (u .peer) ≡ true)
+
+-- THE MAIN PROMISE, over every list of events
+abbrev pub Main : Type 0
+Main = (z : Size) (rules : Rules) (es : List Event) → Whole z rules es
+
+abbrev pub Order : Type 0
+Order = (z : Size) (rules : Rules) (e : Event) (es : List Event) → Sends z rules e es
