@@ -1,4 +1,4 @@
-// Sets of peers, of which there are at most 64.
+//! Sets of peers, of which there are at most 64.
 mod methods;
 
 #[derive(Clone, Copy)]

@@ -1,4 +1,4 @@
-// Making, asking and changing sets of peers.
+//! Making, asking and changing sets of peers.
 ghost use mathlib.Core.Bool.{cond, false, not, true, _&&_};
 ghost use mathlib.Core.Path.{_≡_};
 ghost use Prim.Native.Nat.{ℕ, _≤_};
@@ -40,7 +40,7 @@ impl PeerSet {
         set
     }
 
-    // Those of this set that are not of the other.
+    /// Those of this set that are not of the other.
     pub fn without(&self, other: &PeerSet) -> PeerSet
         ensures { λ r. ⌜ ((i : ℕ) → isMember r i ≡ (isMember (now (self .entry)) i && not (isMember (now (other .entry)) i))) ⌝ }
     {
@@ -54,7 +54,7 @@ impl PeerSet {
         rest
     }
 
-    // Takes a peer in, or out. A number that no peer has changes nothing.
+    /// Takes a peer in, or out. A number that no peer has changes nothing.
     pub fn set(&mut self, peer: u8, member: bool)
         ensures { λ _. ⌜ ((i : ℕ) → isMember (now (self .exit)) i ≡ cond (eqb i peer) (cond (ltb peer 64) member false) (isMember (now (self .entry)) i)) ⌝ }
     {
@@ -67,7 +67,7 @@ impl PeerSet {
 }
 
 impl PeerSet {
-    // No number from 64 on is a member.
+    /// No number from 64 on is a member.
     fn outside_law(&self) -> bool
         ensures { λ _. ⌜ ((i : ℕ) → 64 ≤ i → isMember (now (self .entry)) i ≡ false) ⌝ }
     {

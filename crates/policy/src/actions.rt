@@ -1,4 +1,4 @@
-// What a clause does.
+//! What a clause does.
 ghost use mathlib.Core.Bool.{cond};
 ghost use mathlib.Core.Path.{_≡_};
 ghost use Rattle.policy.specs.Meant.{actionOf, stepOf};
@@ -10,7 +10,7 @@ use crate::Verdict;
 use route::Route;
 
 impl Action {
-    // Does to the route what the action says.
+    /// Does to the route what the action says.
     pub fn act(self, route: &mut Route) -> Step
         ensures { λ r. ⌜ stepOf r (routeOf (now (route .exit))) ≡ act (actionOf self) (routeOf (now (route .entry))) ⌝ }
     {
@@ -35,7 +35,7 @@ impl Action {
     }
 }
 
-// A route for which something does not fit is rejected.
+/// A route for which something does not fit is rejected.
 fn go_on_if(fits: bool) -> Step
     ensures { λ r. ⌜ r ≡ cond fits Step.GoesOn (Step.Decided Verdict.Rejected) ⌝ }
 {

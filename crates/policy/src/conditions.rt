@@ -1,4 +1,4 @@
-// What a clause asks of a route.
+//! What a clause asks of a route.
 ghost use mathlib.Core.Bool.{cond};
 ghost use mathlib.Core.List.{[], _∷_, _++_, map};
 ghost use mathlib.Core.Path.{_≡_};
@@ -23,7 +23,7 @@ use rows::fills;
 use rows::unrolls;
 
 impl Test {
-    // Whether the route is as the test asks.
+    /// Whether the route is as the test asks.
     pub fn fits(&self, lists: &[PrefixList], route: &Route) -> bool
         ensures { λ r. ⌜ r ≡ fits (testOf (now (lists .entry)) (now (self .entry))) (routeOf (now (route .entry))) ⌝ }
     {
@@ -47,7 +47,7 @@ impl Part {
 }
 
 impl Condition {
-    // The condition with no parts, which always holds.
+    /// The condition with no parts, which always holds.
     pub fn new() -> Condition
         ensures { λ r. ⌜ partsOf r ≡ [] ⌝ }
     {
@@ -61,7 +61,7 @@ impl Condition {
         }
     }
 
-    // One part more; false, and all is left as it is, where there are 16.
+    /// One part more; false, and all is left as it is, where there are 16.
     pub fn push(&mut self, part: Part) -> bool
         ensures fits { λ r. ⌜ r ≡ ltb (length (partsOf (now (self .entry)))) 16 ⌝ }
         ensures after { λ r. ⌜ partsOf (now (self .exit)) ≡ cond r (partsOf (now (self .entry)) ++ (part ∷ [])) (partsOf (now (self .entry))) ⌝ }
@@ -76,7 +76,7 @@ impl Condition {
         true
     }
 
-    // Whether all parts hold; the first that does not ends it.
+    /// Whether all parts hold; the first that does not ends it.
     pub fn holds(&self, lists: &[PrefixList], route: &Route) -> bool
         ensures { λ r. ⌜ r ≡ holds (conditionOf (now (lists .entry)) (now (self .entry))) (routeOf (now (route .entry))) ⌝ }
     {
@@ -98,7 +98,7 @@ fn all_hold(parts: &[Part], lists: &[PrefixList], route: &Route) -> bool
     true
 }
 
-// The prefixes of the list of that number; none if there is no such list.
+/// The prefixes of the list of that number; none if there is no such list.
 fn list_at(lists: &[PrefixList], number: u8) -> &[Prefix]
     ensures { λ r. ⌜ map meant (now r) ≡ listAt (now (lists .entry)) number ⌝ }
 {

@@ -1,4 +1,4 @@
-// What a policy makes of a route.
+//! What a policy makes of a route.
 ghost use mathlib.Core.Path.{_≡_};
 ghost use Rattle.policy.specs.Meant.{policyOf, verdictOf};
 ghost use Rattle.policy.specs.Policy.{verdict};
@@ -12,7 +12,7 @@ use rows::ends;
 use rows::unrolls;
 
 impl Policy<'_> {
-    // Clause by clause, until one accepts or rejects the route; at the end it is rejected. The route is left as the clauses made it.
+    /// Clause by clause, until one accepts or rejects the route; at the end it is rejected. The route is left as the clauses made it.
     pub fn evaluate(&self, route: &mut Route) -> Verdict
         ensures { λ r. ⌜ verdictOf r (routeOf (now (route .exit))) ≡ verdict (policyOf (now (self .entry))) (routeOf (now (route .entry))) ⌝ }
     {

@@ -1,4 +1,4 @@
-// Policies: which routes are accepted, and what is changed on them.
+//! Policies: which routes are accepted, and what is changed on them.
 ghost use Prim.Native.Nat.{_≤_};
 use prefix::Prefix;
 
@@ -8,7 +8,7 @@ mod evaluation;
 mod laws;
 mod prefix_lists;
 
-// Up to 64 prefixes, to which conditions refer by the number of the list.
+/// Up to 64 prefixes, to which conditions refer by the number of the list.
 #[derive(Clone, Copy)]
 pub struct PrefixList {
     prefixes: [Prefix; 64],
@@ -16,7 +16,7 @@ pub struct PrefixList {
     ghost few: { count ≤ 64 },
 }
 
-// What a part of a condition asks of a route.
+/// What a part of a condition asks of a route.
 #[derive(Clone, Copy)]
 pub enum Test {
     Any,
@@ -33,7 +33,7 @@ pub struct Part {
     pub test: Test,
 }
 
-// Up to 16 parts, all of which must hold.
+/// Up to 16 parts, all of which must hold.
 #[derive(Clone, Copy)]
 pub struct Condition {
     parts: [Part; 16],
@@ -41,7 +41,7 @@ pub struct Condition {
     ghost few: { count ≤ 16 },
 }
 
-// What a clause does where its condition holds.
+/// What a clause does where its condition holds.
 #[derive(Clone, Copy)]
 pub enum Action {
     Accept,
@@ -59,7 +59,7 @@ pub struct Clause {
     pub action: Action,
 }
 
-// A row of clauses, with the lists that they refer to.
+/// A row of clauses, with the lists that they refer to.
 #[derive(Clone, Copy)]
 pub struct Policy<'a> {
     pub clauses: &'a [Clause],
@@ -72,7 +72,7 @@ pub enum Verdict {
     Rejected,
 }
 
-// What comes of an action.
+/// What comes of an action.
 #[derive(Clone, Copy)]
 pub enum Step {
     Decided(Verdict),

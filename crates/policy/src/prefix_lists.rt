@@ -1,4 +1,4 @@
-// Lists of prefixes.
+//! Lists of prefixes.
 ghost use mathlib.Core.Bool.{cond};
 ghost use mathlib.Core.List.{[], _∷_, _++_, map};
 ghost use mathlib.Core.Path.{_≡_};
@@ -24,7 +24,7 @@ impl PrefixList {
         }
     }
 
-    // One prefix more; false, and all is left as it is, where there are 64.
+    /// One prefix more; false, and all is left as it is, where there are 64.
     pub fn push(&mut self, prefix: Prefix) -> bool
         ensures fits { λ r. ⌜ r ≡ ltb (length (listedOf (now (self .entry)))) 64 ⌝ }
         ensures after { λ r. ⌜ listedOf (now (self .exit)) ≡ cond r (listedOf (now (self .entry)) ++ (prefix ∷ [])) (listedOf (now (self .entry))) ⌝ }
@@ -39,7 +39,7 @@ impl PrefixList {
         true
     }
 
-    // The prefixes of the list.
+    /// The prefixes of the list.
     pub fn as_slice(&self) -> &[Prefix]
         ensures { λ r. ⌜ now r ≡ listedOf (now (self .entry)) ⌝ }
     {
@@ -48,7 +48,7 @@ impl PrefixList {
     }
 }
 
-// Whether the prefix is one of the list.
+/// Whether the prefix is one of the list.
 pub fn is_listed(prefix: &Prefix, list: &[Prefix]) -> bool
     ensures { λ r. ⌜ r ≡ isListed (meant (now (prefix .entry))) (map meant (now (list .entry))) ⌝ }
 {
@@ -62,7 +62,7 @@ pub fn is_listed(prefix: &Prefix, list: &[Prefix]) -> bool
     false
 }
 
-// Whether the prefix is within one of the list.
+/// Whether the prefix is within one of the list.
 pub fn is_covered(prefix: &Prefix, list: &[Prefix]) -> bool
     ensures { λ r. ⌜ r ≡ isCovered (meant (now (prefix .entry))) (map meant (now (list .entry))) ⌝ }
 {

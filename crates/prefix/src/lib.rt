@@ -1,4 +1,4 @@
-// An IPv4 prefix of at most 24 bits.
+//! An IPv4 prefix of at most 24 bits.
 ghost use mathlib.Core.Bool.{true};
 ghost use mathlib.Core.Path.{_≡_};
 ghost use Rattle.prefix.specs.Prefix.{isPrefix};
@@ -10,7 +10,7 @@ pub use methods::prefix_laws;
 pub use numbers::COUNT;
 pub use numbers::number_laws;
 
-// The addresses whose first `length` bits are those of `address`; the bits behind are 0.
+/// The addresses whose first `length` bits are those of `address`; the bits behind are 0.
 #[derive(Clone, Copy)]
 pub struct Prefix {
     address: u32,

@@ -1,4 +1,4 @@
-// The numbers of prefixes, by address and, at one address, by length.
+//! The numbers of prefixes, by address and, at one address, by length.
 ghost use mathlib.Core.Bool.{cond};
 ghost use mathlib.Core.Path.{_≡_};
 ghost use Prim.Native.Nat.{_+_, _-_, _^_, _<_, _≤_};
@@ -9,10 +9,10 @@ ghost use Rattle.prefix.specs.Steps.{Descends, Ends, Numbered};
 ghost use Rattle.std.specs.Options.{Cases};
 use crate::Prefix;
 
-// How many prefixes there are.
+/// How many prefixes there are.
 pub const COUNT: u32 = 33_554_431;
 
-// Numbers have the order of prefixes, and each below `COUNT` is that of one.
+/// Numbers have the order of prefixes, and each below `COUNT` is that of one.
 pub fn number_laws() -> bool
     ensures rising { λ _. ⌜ Rising ⌝ }
     ensures injective { λ _. ⌜ Injective ⌝ }
@@ -23,14 +23,14 @@ pub fn number_laws() -> bool
     true
 }
 
-// A prefix's number can be worked out.
+/// A prefix's number can be worked out.
 fn number_fits() -> bool
     ensures { λ _. ⌜ Numbered ⌝ }
 {
     true
 }
 
-// Going down from a prefix to the one of a number, bit by bit.
+/// Going down from a prefix to the one of a number, bit by bit.
 fn descent() -> bool
     ensures descends { λ _. ⌜ Descends ⌝ }
     ensures ends { λ _. ⌜ Ends ⌝ }
@@ -39,7 +39,7 @@ fn descent() -> bool
 }
 
 impl Prefix {
-    // The place among all prefixes, from 0.
+    /// The place among all prefixes, from 0.
     pub fn number(&self) -> u32
         ensures value { λ r. ⌜ r ≡ number (meant (now (self .entry))) ⌝ }
         ensures bound { λ r. ⌜ r < count ⌝ }
@@ -49,7 +49,7 @@ impl Prefix {
         2 * bits + self.length as u32 - bits.count_ones()
     }
 
-    // The prefix with one bit more.
+    /// The prefix with one bit more.
     fn longer(self, one: bool) -> Prefix
         requires { ⌜ self .length < 24 ⌝ }
         ensures { λ r. ⌜ meant r ≡ record { address = self .address + cond one (2 ^ (31 - self .length)) 0; length = self .length + 1 } ⌝ }
@@ -61,7 +61,7 @@ impl Prefix {
         }
     }
 
-    // The prefix of that number, if there is one.
+    /// The prefix of that number, if there is one.
     pub fn from_number(n: u32) -> Option<Prefix>
         ensures { λ r. ⌜ Cases r (count ≤ n) (λ p. (n < count) × (meant p ≡ prefixOf n)) ⌝ }
     {

@@ -1,9 +1,9 @@
-// Looking for a number in a row.
+//! Looking for a number in a row.
 ghost use mathlib.Core.Path.{_≡_};
 ghost use Rattle.route.specs.Numbers.{isIn};
 ghost use Rattle.route.specs.Steps.{IsInSteps};
 
-// Whether `n` stands in the row: a network on a path, a community on a route.
+/// Whether `n` stands in the row: a network on a path, a community on a route.
 pub fn is_among(row: &[u32], n: u32) -> bool
     ensures { λ r. ⌜ r ≡ isIn n (now (row .entry)) ⌝ }
 {

@@ -1,4 +1,4 @@
-// A route: a prefix, and what its sender says of the way there.
+//! A route: a prefix, and what its sender says of the way there.
 ghost use mathlib.Core.Bool.{true};
 ghost use mathlib.Core.Path.{_≡_};
 ghost use Prim.Native.Nat.{_≤_, _<_};
@@ -17,7 +17,7 @@ pub use laws::row_laws;
 use prefix::Prefix;
 pub use sameness::same_option;
 
-// An AS path of 1 to 32 networks, the nearest first. It stands at the end of the array, so that the room in front takes what is prepended.
+/// An AS path of 1 to 32 networks, the nearest first. It stands at the end of the array, so that the room in front takes what is prepended.
 #[derive(Clone, Copy)]
 pub struct Path {
     asns: [u32; 32],
@@ -25,7 +25,7 @@ pub struct Path {
     ghost some: { start < 32 },
 }
 
-// Up to 8 communities, in rising order, each once.
+/// Up to 8 communities, in rising order, each once.
 #[derive(Clone, Copy)]
 pub struct Communities {
     values: [u32; 8],
@@ -34,7 +34,7 @@ pub struct Communities {
     ghost ordered: { rising (take count values) ≡ true },
 }
 
-// The numbers by which routes are compared: the larger local preference, the smaller MED is the better.
+/// The numbers by which routes are compared: the larger local preference, the smaller MED is the better.
 #[derive(Clone, Copy)]
 pub struct Metrics {
     pub local_pref: u32,

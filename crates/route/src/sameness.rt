@@ -1,4 +1,4 @@
-// When two routes are the same.
+//! When two routes are the same.
 ghost use mathlib.Core.Path.{_≡_};
 ghost use Rattle.route.specs.Meant.{routeOf};
 ghost use Rattle.route.specs.Same.{sameOption, sameRoute, sameRow};
@@ -7,7 +7,7 @@ ghost use Rattle.std.specs.Options.{mapped};
 use crate::Route;
 
 impl Route {
-    // Whether both say the same of the same prefix.
+    /// Whether both say the same of the same prefix.
     pub fn is(&self, other: &Route) -> bool
         ensures { λ r. ⌜ r ≡ sameRoute (routeOf (now (self .entry))) (routeOf (now (other .entry))) ⌝ }
     {
@@ -19,7 +19,7 @@ impl Route {
     }
 }
 
-// Whether there is no route, or one and the same.
+/// Whether there is no route, or one and the same.
 pub fn same_option(one: &Option<Route>, other: &Option<Route>) -> bool
     ensures { λ r. ⌜ r ≡ sameOption (mapped routeOf (now (one .entry))) (mapped routeOf (now (other .entry))) ⌝ }
 {

@@ -1,4 +1,4 @@
-// Which of two candidates is better.
+//! Which of two candidates is better.
 ghost use mathlib.Core.Path.{_≡_};
 ghost use Rattle.selection.specs.Intended.{orBetter, outranks, rank};
 ghost use Rattle.selection.specs.Meant.{candidateOf, rankOf};
@@ -9,7 +9,7 @@ use crate::Candidate;
 use crate::Rank;
 
 impl Rank {
-    // The larger local preference; else the shorter path; else the smaller MED; else the lower peer.
+    /// The larger local preference; else the shorter path; else the smaller MED; else the lower peer.
     pub fn outranks(self, other: Rank) -> bool
         ensures { λ r. ⌜ r ≡ outranks (rankOf self) (rankOf other) ⌝ }
     {
@@ -39,7 +39,7 @@ impl Candidate {
     }
 }
 
-// The better of a candidate and the best so far.
+/// The better of a candidate and the best so far.
 pub fn better_of(best: Option<Candidate>, candidate: Candidate) -> Option<Candidate>
     ensures { λ r. ⌜ mapped candidateOf r ≡ orBetter (candidate .peer) (Some (routeOf (candidate .route))) (mapped candidateOf best) ⌝ }
 {

@@ -1,4 +1,4 @@
-// What is exported of the selected route.
+//! What is exported of the selected route.
 ghost use mathlib.Core.Path.{_≡_};
 ghost use Rattle.policy.specs.Meant.{policyOf};
 ghost use Rattle.route.specs.Meant.{routeOf};
@@ -11,7 +11,7 @@ use policy::Policy;
 use policy::Verdict;
 use route::Route;
 
-// The selected route as it is offered to the export policies: with the own network in front, if there is room for it, and MED 0.
+/// The selected route as it is offered to the export policies: with the own network in front, if there is room for it, and MED 0.
 pub fn offer(own_asn: u32, best: Option<Candidate>) -> Option<Candidate>
     ensures { λ r. ⌜ mapped candidateOf r ≡ offered «own_asn» (mapped candidateOf best) ⌝ }
 {
@@ -24,7 +24,7 @@ pub fn offer(own_asn: u32, best: Option<Candidate>) -> Option<Candidate>
     Some(Candidate { peer, route })
 }
 
-// What the export policy of a peer makes of what is offered, unless it comes from that peer.
+/// What the export policy of a peer makes of what is offered, unless it comes from that peer.
 pub fn export(policy: &Policy<'_>, peer: u8, offer: &Option<Candidate>) -> Option<Route>
     ensures { λ r. ⌜ mapped routeOf r ≡ exportedTo (policyOf (now (policy .entry))) peer (mapped candidateOf (now (offer .entry))) ⌝ }
 {

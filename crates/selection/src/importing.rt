@@ -1,4 +1,4 @@
-// What is imported of an announced route.
+//! What is imported of an announced route.
 ghost use mathlib.Core.Path.{_≡_};
 ghost use Rattle.policy.specs.Meant.{policyOf};
 ghost use Rattle.route.specs.Meant.{routeOf};
@@ -9,7 +9,7 @@ use policy::Verdict;
 use route::Route;
 use route::is_among;
 
-// What the policy makes of an announced route; never one that has the own network on its path.
+/// What the policy makes of an announced route; never one that has the own network on its path.
 pub fn import(own_asn: u32, policy: &Policy<'_>, announced: &Route) -> Option<Route>
     ensures { λ r. ⌜ mapped routeOf r ≡ importedBy «own_asn» (policyOf (now (policy .entry))) (routeOf (now (announced .entry))) ⌝ }
 {

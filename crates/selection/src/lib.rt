@@ -1,4 +1,4 @@
-// What each peer should hold: import, selection and export.
+//! What each peer should hold: import, selection and export.
 use peers::PeerSet;
 use rib::Rib;
 use route::Route;
@@ -17,14 +17,14 @@ pub use importing::import;
 pub use laws::selection_laws;
 pub use policies::PolicySource;
 
-// An imported route, and the peer from which it comes.
+/// An imported route, and the peer from which it comes.
 #[derive(Clone, Copy)]
 pub struct Candidate {
     pub peer: u8,
     pub route: Route,
 }
 
-// The numbers by which candidates are compared.
+/// The numbers by which candidates are compared.
 #[derive(Clone, Copy)]
 pub struct Rank {
     local_pref: u32,
@@ -33,7 +33,7 @@ pub struct Rank {
     peer: u8,
 }
 
-// All that goes into what a peer should hold: who is there, what each announced, and the policies. The announcements of silent peers don't count.
+/// All that goes into what a peer should hold: who is there, what each announced, and the policies. The announcements of silent peers don't count.
 #[derive(Drop)]
 pub struct View<'a, R: Rib, P: PolicySource> {
     pub own_asn: u32,

@@ -1,4 +1,4 @@
-// Where the policies of the peers come from.
+//! Where the policies of the peers come from.
 ghost use mathlib.Core.Path.{_≡_};
 ghost use Prim.Native.Nat.{ℕ};
 ghost use Rattle.policy.specs.Meant.{policyOf};

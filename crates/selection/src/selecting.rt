@@ -1,4 +1,4 @@
-// What a peer should hold.
+//! What a peer should hold.
 ghost use mathlib.Core.Path.{_≡_};
 ghost use Rattle.peers.specs.Members.{isMember};
 ghost use Rattle.prefix.specs.Meant.{meant};
@@ -21,7 +21,7 @@ use rib::Rib;
 use route::Route;
 
 impl<R: Rib, P: PolicySource> View<'_, R, P> {
-    // The best of what is imported of the prefix from the peers that count.
+    /// The best of what is imported of the prefix from the peers that count.
     pub fn select(&self, prefix: Prefix) -> Option<Candidate>
         ensures { λ r. ⌜ mapped candidateOf r ≡ selected (rulesOf (now (self .entry) .«own_asn») (P·PolicySource .imports (now (now (self .entry) .policies))) (P·PolicySource .exports (now (now (self .entry) .policies)))) (heard (isMember (now (self .entry) .silent)) (R·Rib .received (now (now (self .entry) .rib)))) (number (meant prefix)) (now (self .entry) .peers) ⌝ }
     {
@@ -40,14 +40,14 @@ impl<R: Rib, P: PolicySource> View<'_, R, P> {
         best
     }
 
-    // The best of the prefix as it is offered to export policies.
+    /// The best of the prefix as it is offered to export policies.
     pub fn offer(&self, prefix: Prefix) -> Option<Candidate>
         ensures { λ r. ⌜ mapped candidateOf r ≡ offered (now (self .entry) .«own_asn») (selected (rulesOf (now (self .entry) .«own_asn») (P·PolicySource .imports (now (now (self .entry) .policies))) (P·PolicySource .exports (now (now (self .entry) .policies)))) (heard (isMember (now (self .entry) .silent)) (R·Rib .received (now (now (self .entry) .rib)))) (number (meant prefix)) (now (self .entry) .peers)) ⌝ }
     {
         offer(self.own_asn, self.select(prefix))
     }
 
-    // What the peer should hold of the prefix.
+    /// What the peer should hold of the prefix.
     pub fn intended(&self, peer: u8, prefix: Prefix) -> Option<Route>
         ensures { λ r. ⌜ mapped routeOf r ≡ intended (rulesOf (now (self .entry) .«own_asn») (P·PolicySource .imports (now (now (self .entry) .policies))) (P·PolicySource .exports (now (now (self .entry) .policies)))) (now (self .entry) .peers) (heard (isMember (now (self .entry) .silent)) (R·Rib .received (now (now (self .entry) .rib)))) peer (number (meant prefix)) ⌝ }
     {
@@ -55,7 +55,7 @@ impl<R: Rib, P: PolicySource> View<'_, R, P> {
         export(&self.policies.export_policy(peer), peer, &offer)
     }
 
-    // The best so far, or what is imported of the peer's announcement, if that is better.
+    /// The best so far, or what is imported of the peer's announcement, if that is better.
     fn consider(
         &self,
         peer: u8,

@@ -1,4 +1,4 @@
-// The inner steps that can change what is held of any prefix.
+//! The inner steps that can change what is held of any prefix.
 ghost use mathlib.Core.Bool.{cond, _&&_};
 ghost use mathlib.Core.Path.{_≡_};
 ghost use Prim.Native.Nat.{ℕ};
@@ -15,7 +15,7 @@ use telling::Change;
 use telling::Sink;
 
 impl<R: Rib, P: PolicySource> Server<R, P> {
-    // Takes the sessions of a set down: their announcements are gone, and the other peers are told what is new.
+    /// Takes the sessions of a set down: their announcements are gone, and the other peers are told what is new.
     pub(crate) fn silence<S: Sink>(&mut self, sink: &mut S, down: &PeerSet)
         ensures same { λ _. ⌜ (now (self .exit) .«own_asn» ≡ now (self .entry) .«own_asn») × (now (self .exit) .peers ≡ now (self .entry) .peers) × (now (self .exit) .policies ≡ now (self .entry) .policies) ⌝ }
         ensures after { λ _. ⌜ Silenced (S·Sink .sends) (rulesOf (now (self .entry) .«own_asn») (P·PolicySource .imports (now (self .entry) .policies)) (P·PolicySource .exports (now (self .entry) .policies))) (now (self .entry) .peers) (isMember (now (down .entry))) (R·Rib .received (now (self .entry) .rib)) (R·Rib .received (now (self .exit) .rib)) (isMember (now (self .entry) .up)) (isMember (now (self .exit) .up)) (now (sink .entry)) (now (sink .exit)) ⌝ }
@@ -37,7 +37,7 @@ impl<R: Rib, P: PolicySource> Server<R, P> {
         clear_all(&mut self.rib, down, self.peers);
     }
 
-    // Brings a peer's session up: it is told from the start all that it should hold.
+    /// Brings a peer's session up: it is told from the start all that it should hold.
     pub(crate) fn welcome<S: Sink>(&mut self, sink: &mut S, peer: u8)
         ensures same { λ _. ⌜ (now (self .exit) .«own_asn» ≡ now (self .entry) .«own_asn») × (now (self .exit) .peers ≡ now (self .entry) .peers) × (now (self .exit) .policies ≡ now (self .entry) .policies) ⌝ }
         ensures after { λ _. ⌜ Welcomed (S·Sink .sends) (rulesOf (now (self .entry) .«own_asn») (P·PolicySource .imports (now (self .entry) .policies)) (P·PolicySource .exports (now (self .entry) .policies))) (now (self .entry) .peers) peer (R·Rib .received (now (self .entry) .rib)) (R·Rib .received (now (self .exit) .rib)) (isMember (now (self .entry) .up)) (isMember (now (self .exit) .up)) (now (sink .entry)) (now (sink .exit)) ⌝ }
@@ -58,7 +58,7 @@ impl<R: Rib, P: PolicySource> Server<R, P> {
         self.up.set(peer, true);
     }
 
-    // Puts other policies in force, and hands the old ones back: all are told what is new.
+    /// Puts other policies in force, and hands the old ones back: all are told what is new.
     pub(crate) fn replace<S: Sink>(&mut self, sink: &mut S, policies: &mut P)
         ensures same { λ _. ⌜ (now (self .exit) .«own_asn» ≡ now (self .entry) .«own_asn») × (now (self .exit) .peers ≡ now (self .entry) .peers) × (now (self .exit) .up ≡ now (self .entry) .up) ⌝ }
         ensures policies { λ _. ⌜ (now (self .exit) .policies ≡ now (policies .entry)) × (now (policies .exit) ≡ now (self .entry) .policies) ⌝ }
@@ -98,7 +98,7 @@ impl<R: Rib, P: PolicySource> Server<R, P> {
     }
 }
 
-// Forgets what the peers of a set announced, of those below `peers`.
+/// Forgets what the peers of a set announced, of those below `peers`.
 fn clear_all<R: Rib>(rib: &mut R, set: &PeerSet, peers: u8)
     ensures { λ _. ⌜ ((i p : ℕ) → R·Rib .received (now (rib .exit)) i p ≡ cond (ltb i peers && isMember (now (set .entry)) i) None (R·Rib .received (now (rib .entry)) i p)) ⌝ }
 {

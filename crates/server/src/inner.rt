@@ -1,4 +1,4 @@
-// The inner steps of the server.
+//! The inner steps of the server.
 ghost use mathlib.Core.Bool.{false, _&&_};
 ghost use mathlib.Core.Path.{_≡_};
 ghost use Prim.Native.Nat.{ℕ};
@@ -27,14 +27,14 @@ use telling::Sink;
 use telling::tell_prefix;
 
 impl<R: Rib, P: PolicySource> Server<R, P> {
-    // Whether what the peer says counts: it is there, and its session is up.
+    /// Whether what the peer says counts: it is there, and its session is up.
     pub fn hears(&self, peer: u8) -> bool
         ensures { λ r. ⌜ r ≡ (ltb peer (now (self .entry) .peers) && isMember (now (self .entry) .up) peer) ⌝ }
     {
         peer < self.peers && self.up.contains(peer)
     }
 
-    // What is offered of the prefix to export policies.
+    /// What is offered of the prefix to export policies.
     fn offer(&self, prefix: Prefix) -> Option<Candidate>
         ensures { λ r. ⌜ mapped candidateOf r ≡ offered (now (self .entry) .«own_asn») (selected (rulesOf (now (self .entry) .«own_asn») (P·PolicySource .imports (now (self .entry) .policies)) (P·PolicySource .exports (now (self .entry) .policies))) (R·Rib .received (now (self .entry) .rib)) (number (meant prefix)) (now (self .entry) .peers)) ⌝ }
     {
@@ -50,7 +50,7 @@ impl<R: Rib, P: PolicySource> Server<R, P> {
         view.offer(prefix)
     }
 
-    // Keeps what the peer announces, and tells all what is new of its prefix; false, and nothing is done, where there is no room.
+    /// Keeps what the peer announces, and tells all what is new of its prefix; false, and nothing is done, where there is no room.
     pub(crate) fn keep<S: Sink>(&mut self, sink: &mut S, peer: u8, route: &Route) -> bool
         ensures same { λ _. ⌜ (now (self .exit) .«own_asn» ≡ now (self .entry) .«own_asn») × (now (self .exit) .peers ≡ now (self .entry) .peers) × (now (self .exit) .policies ≡ now (self .entry) .policies) × (now (self .exit) .up ≡ now (self .entry) .up) ⌝ }
         ensures fits { λ r. ⌜ r ≡ (ltb peer mostPeers && leb (stored mostPeers count (updated peer (number (meant (now (route .entry) .prefix))) (Some (routeOf (now (route .entry)))) (R·Rib .received (now (self .entry) .rib)))) capacity) ⌝ }
@@ -72,7 +72,7 @@ impl<R: Rib, P: PolicySource> Server<R, P> {
         true
     }
 
-    // Forgets what the peer announced of the prefix, and tells all what is new of it.
+    /// Forgets what the peer announced of the prefix, and tells all what is new of it.
     pub(crate) fn forget<S: Sink>(&mut self, sink: &mut S, peer: u8, prefix: Prefix)
         ensures same { λ _. ⌜ (now (self .exit) .«own_asn» ≡ now (self .entry) .«own_asn») × (now (self .exit) .peers ≡ now (self .entry) .peers) × (now (self .exit) .policies ≡ now (self .entry) .policies) × (now (self .exit) .up ≡ now (self .entry) .up) ⌝ }
         ensures after { λ _. ⌜ Kept (S·Sink .sends) (rulesOf (now (self .entry) .«own_asn») (P·PolicySource .imports (now (self .entry) .policies)) (P·PolicySource .exports (now (self .entry) .policies))) (now (self .entry) .peers) (isMember (now (self .entry) .up)) peer (number (meant prefix)) None (R·Rib .received (now (self .entry) .rib)) (R·Rib .received (now (self .exit) .rib)) (now (sink .entry)) (now (sink .exit)) ⌝ }

@@ -1,4 +1,4 @@
-// Telling peers of all prefixes.
+//! Telling peers of all prefixes.
 ghost use mathlib.Core.Path.{_≡_};
 ghost use Rattle.model.specs.Chain.{Chain};
 ghost use Rattle.model.specs.Updates.{row, updates};
@@ -23,7 +23,7 @@ use selection::PolicySource;
 use selection::View;
 
 impl<R: Rib, P: PolicySource> Change<'_, R, P> {
-    // What the peer should have held of the prefix before.
+    /// What the peer should have held of the prefix before.
     fn before(&self, peer: u8, prefix: Prefix) -> Option<Route>
         ensures { λ r. ⌜ mapped routeOf r ≡ intended (rulesOf (now (self .entry) .«own_asn») (P·PolicySource .imports (now (now (self .entry) .«policies_before»))) (P·PolicySource .exports (now (now (self .entry) .«policies_before»)))) (now (self .entry) .peers) (heard (isMember (now (self .entry) .«silent_before»)) (R·Rib .received (now (now (self .entry) .rib)))) peer (number (meant prefix)) ⌝ }
     {
@@ -37,7 +37,7 @@ impl<R: Rib, P: PolicySource> Change<'_, R, P> {
         view.intended(peer, prefix)
     }
 
-    // What the peer should hold of the prefix now.
+    /// What the peer should hold of the prefix now.
     fn after(&self, peer: u8, prefix: Prefix) -> Option<Route>
         ensures { λ r. ⌜ mapped routeOf r ≡ intended (rulesOf (now (self .entry) .«own_asn») (P·PolicySource .imports (now (now (self .entry) .«policies_after»))) (P·PolicySource .exports (now (now (self .entry) .«policies_after»)))) (now (self .entry) .peers) (heard (isMember (now (self .entry) .«silent_after»)) (R·Rib .received (now (now (self .entry) .rib)))) peer (number (meant prefix)) ⌝ }
     {
@@ -51,7 +51,7 @@ impl<R: Rib, P: PolicySource> Change<'_, R, P> {
         view.intended(peer, prefix)
     }
 
-    // Tells the peer what is new for it, of all prefixes that somebody has announced, in rising order.
+    /// Tells the peer what is new for it, of all prefixes that somebody has announced, in rising order.
     pub fn tell_peer<S: Sink>(&self, sink: &mut S, peer: u8)
         ensures { λ _. ⌜ Chain (S·Sink .sends) (now (sink .entry)) (row peer (intendedBy (rulesOf (now (self .entry) .«own_asn») (P·PolicySource .imports (now (now (self .entry) .«policies_before»))) (P·PolicySource .exports (now (now (self .entry) .«policies_before»)))) (now (self .entry) .peers) (isMember (now (self .entry) .«silent_before»)) (R·Rib .received (now (now (self .entry) .rib))) peer) (intendedBy (rulesOf (now (self .entry) .«own_asn») (P·PolicySource .imports (now (now (self .entry) .«policies_after»))) (P·PolicySource .exports (now (now (self .entry) .«policies_after»)))) (now (self .entry) .peers) (isMember (now (self .entry) .«silent_after»)) (R·Rib .received (now (now (self .entry) .rib))) peer) count) (now (sink .exit)) ⌝ }
     {
@@ -68,7 +68,7 @@ impl<R: Rib, P: PolicySource> Change<'_, R, P> {
         let _ = self.row_law(sink, peer, from, COUNT);
     }
 
-    // Tells each peer whose session is up what is new for it, peers in rising order, and for each prefixes in rising order.
+    /// Tells each peer whose session is up what is new for it, peers in rising order, and for each prefixes in rising order.
     pub fn tell_all<S: Sink>(&self, sink: &mut S, up: &PeerSet)
         ensures { λ _. ⌜ Chain (S·Sink .sends) (now (sink .entry)) (updates count (isMember (now (up .entry))) (intendedBy (rulesOf (now (self .entry) .«own_asn») (P·PolicySource .imports (now (now (self .entry) .«policies_before»))) (P·PolicySource .exports (now (now (self .entry) .«policies_before»)))) (now (self .entry) .peers) (isMember (now (self .entry) .«silent_before»)) (R·Rib .received (now (now (self .entry) .rib)))) (intendedBy (rulesOf (now (self .entry) .«own_asn») (P·PolicySource .imports (now (now (self .entry) .«policies_after»))) (P·PolicySource .exports (now (now (self .entry) .«policies_after»)))) (now (self .entry) .peers) (isMember (now (self .entry) .«silent_after»)) (R·Rib .received (now (now (self .entry) .rib)))) (now (self .entry) .peers)) (now (sink .exit)) ⌝ }
     {

@@ -1,4 +1,4 @@
-// Telling all peers of one prefix.
+//! Telling all peers of one prefix.
 ghost use mathlib.Core.Bool.{cond};
 ghost use mathlib.Core.List.{[]};
 ghost use Rattle.model.specs.Chain.{Chain};
@@ -18,7 +18,7 @@ use selection::Candidate;
 use selection::PolicySource;
 use selection::export;
 
-// What was offered of a prefix before, and what is now.
+/// What was offered of a prefix before, and what is now.
 #[derive(Clone, Copy)]
 pub struct Offers {
     pub prefix: Prefix,
@@ -26,7 +26,7 @@ pub struct Offers {
     pub new: Option<Candidate>,
 }
 
-// Tells each peer below `peers` whose session is up what is new for it of the prefix, in rising order.
+/// Tells each peer below `peers` whose session is up what is new for it of the prefix, in rising order.
 pub fn tell_prefix<S: Sink, P: PolicySource>(
     sink: &mut S,
     up: &PeerSet,
@@ -42,7 +42,7 @@ pub fn tell_prefix<S: Sink, P: PolicySource>(
     }
 }
 
-// The same, for one peer.
+/// The same, for one peer.
 fn tell_if_up<S: Sink, P: PolicySource>(
     sink: &mut S,
     up: &PeerSet,

@@ -1,4 +1,4 @@
-// Telling one peer of one prefix.
+//! Telling one peer of one prefix.
 ghost use Rattle.model.specs.Chain.{Chain};
 ghost use Rattle.model.specs.Updates.{tellIf};
 ghost use Rattle.prefix.specs.Meant.{meant};
@@ -11,7 +11,7 @@ use prefix::Prefix;
 use route::Route;
 use route::same_option;
 
-// Tells the peer what it should hold of the prefix, if that isn't what it holds.
+/// Tells the peer what it should hold of the prefix, if that isn't what it holds.
 pub fn tell<S: Sink>(
     sink: &mut S,
     peer: u8,

@@ -1,0 +1,4 @@
+pub mod Peers
+pub mod Sizes
+pub mod Begins
+pub mod Laws

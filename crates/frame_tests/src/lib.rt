@@ -1,0 +1,3 @@
+//! Tests of reading frames, by examples.
+#[cfg(test)]
+mod tests;
