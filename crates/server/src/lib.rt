@@ -8,6 +8,7 @@ mod events;
 mod inner;
 
 /// What the server goes by: whose session is up, what each peer last announced, and the policies. It remembers nothing of what it told.
+#[derive(Drop)]
 pub struct Server<R: Rib, P: PolicySource> {
     own_asn: u32,
     peers: u8,
