@@ -1,0 +1,3 @@
+pub mod Numerals
+pub mod Segments
+pub mod Forms

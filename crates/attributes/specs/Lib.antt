@@ -1,0 +1,6 @@
+pub mod Layout
+pub mod AsPath
+pub mod Gathering
+pub mod Meaning
+pub mod Meant
+pub mod Steps

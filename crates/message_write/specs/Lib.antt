@@ -1,0 +1,3 @@
+pub mod Written
+pub mod Put
+pub mod Steps

@@ -1,0 +1,2 @@
+pub mod Recursions
+pub mod Unplaced

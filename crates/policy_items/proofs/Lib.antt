@@ -1,0 +1,3 @@
+pub mod Recursions
+pub mod Exactness
+pub mod Unplaced

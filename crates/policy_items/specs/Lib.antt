@@ -1,0 +1,4 @@
+pub mod Items
+pub mod Meant
+pub mod Steps
+pub mod Limits

@@ -1,0 +1,5 @@
+pub mod Lookups
+pub mod Counting
+pub mod Orders
+pub mod Changes
+pub mod Clearing

@@ -1,0 +1,4 @@
+pub mod Types
+pub mod Finds
+pub mod Parts
+pub mod Judging
