@@ -1,4 +1,4 @@
-// The value of the attribute AS_PATH.
+//! The value of the attribute AS_PATH.
 ghost use mathlib.Core.List.{[]};
 ghost use mathlib.Core.Path.{_≡_};
 ghost use Prim.Native.Nat.{_≤_};
@@ -18,10 +18,10 @@ use wire::byte_at;
 use wire::cut;
 use wire::skip;
 
-// The type of a segment whose networks stand in order.
+/// The type of a segment whose networks stand in order.
 const SEQUENCE: u8 = 2;
 
-// The path that the value holds: of the peer's, so that it begins with its network.
+/// The path that the value holds: of the peer's, so that it begins with its network.
 pub fn read_path(value: &[u8], asn: u32) -> Result<Path, Fault>
     ensures { λ r. ⌜ readingOf asnsOf r ≡ readPath asn (now (value .entry)) ⌝ }
 {
@@ -33,7 +33,7 @@ pub fn read_path(value: &[u8], asn: u32) -> Result<Path, Fault>
     }
 }
 
-// The path of these networks, if there are 1 to 32 and it begins with the peer's.
+/// The path of these networks, if there are 1 to 32 and it begins with the peer's.
 fn path_of(asns: &[u32], asn: u32) -> Result<Path, Fault>
     ensures { λ r. ⌜ (length (now (asns .entry)) ≤ 32 → readingOf asnsOf r ≡ startingWith asn (now (asns .entry))) ⌝ }
 {
@@ -43,7 +43,7 @@ fn path_of(asns: &[u32], asn: u32) -> Result<Path, Fault>
     Path::new(asns).ok_or(Fault::Value)
 }
 
-// Writes the networks of all segments into the row, and says how many there are.
+/// Writes the networks of all segments into the row, and says how many there are.
 fn read_segments(value: &[u8], asns: &mut [u32]) -> Result<usize, Fault>
     ensures within { λ r. ⌜ ByOk r (λ n. n ≤ length (now (asns .exit))) (λ _. Unit {0}) ⌝ }
     ensures asns { λ r. ⌜ readingOf (λ n. take n (now (asns .exit))) r ≡ readSegments (length (now (asns .entry))) (Some []) (now (value .entry)) ⌝ }
@@ -61,14 +61,14 @@ fn read_segments(value: &[u8], asns: &mut [u32]) -> Result<usize, Fault>
     count.ok_or(Fault::Value)
 }
 
-// How many bytes the first segment takes.
+/// How many bytes the first segment takes.
 fn segment_size(segments: &[u8]) -> usize
     ensures { λ r. ⌜ r ≡ segmentSize (now (segments .entry)) ⌝ }
 {
     2 + 4 * usize::from(byte_at(segments, 1))
 }
 
-// Writes the networks of a segment behind the first `count` of the row; none is left of a path that has a wrong segment or is too long.
+/// Writes the networks of a segment behind the first `count` of the row; none is left of a path that has a wrong segment or is too long.
 fn add_segment(segment: &[u8], asns: &mut [u32], count: Option<usize>) -> Option<usize>
     requires { ⌜ Cases count (Unit {0}) (λ n. n ≤ length (now asns)) ⌝ }
     ensures within { λ r. ⌜ Cases r (Unit {0}) (λ n. n ≤ length (now (asns .exit))) ⌝ }

@@ -1,4 +1,4 @@
-// The types of attributes, and how each stands in a message.
+//! The types of attributes, and how each stands in a message.
 ghost use mathlib.Core.Path.{_≡_};
 ghost use Rattle.attributes.specs.Layout.{attributeSize, hasFlags, hasForm, hasLength, isExtended, kindOf, typeOf, valueOf};
 use crate::Kind;
@@ -6,7 +6,7 @@ use wire::byte_at;
 use wire::skip;
 use wire::u16_of;
 
-// Flags of attributes, as bits.
+/// Flags of attributes, as bits.
 const OPTIONAL: u8 = 0x80;
 
 const TRANSITIVE: u8 = 0x40;
@@ -28,7 +28,7 @@ impl Kind {
         }
     }
 
-    // Whether these are the flags of the attribute: only optional and transitive are looked at.
+    /// Whether these are the flags of the attribute: only optional and transitive are looked at.
     fn has_flags(self, flags: u8) -> bool
         ensures { λ r. ⌜ r ≡ hasFlags self flags ⌝ }
     {
@@ -41,7 +41,7 @@ impl Kind {
         }
     }
 
-    // Whether the attribute can have so many bytes.
+    /// Whether the attribute can have so many bytes.
     fn has_length(self, length: usize) -> bool
         ensures { λ r. ⌜ r ≡ hasLength self length ⌝ }
     {
@@ -54,7 +54,7 @@ impl Kind {
     }
 }
 
-// Whether the attribute's flags and length are those of its type.
+/// Whether the attribute's flags and length are those of its type.
 pub fn has_form(attribute: &[u8]) -> bool
     ensures { λ r. ⌜ r ≡ hasForm (now (attribute .entry)) ⌝ }
 {
@@ -62,7 +62,7 @@ pub fn has_form(attribute: &[u8]) -> bool
     kind.has_flags(byte_at(attribute, 0)) && kind.has_length(value_of(attribute).len())
 }
 
-// How many bytes the first attribute takes.
+/// How many bytes the first attribute takes.
 pub fn attribute_size(attributes: &[u8]) -> usize
     ensures { λ r. ⌜ r ≡ attributeSize (now (attributes .entry)) ⌝ }
 {
@@ -83,7 +83,7 @@ pub fn value_of(attribute: &[u8]) -> &[u8]
     }
 }
 
-// Whether the first attribute's length has two bytes.
+/// Whether the first attribute's length has two bytes.
 fn is_extended(attributes: &[u8]) -> bool
     ensures { λ r. ⌜ r ≡ isExtended (now (attributes .entry)) ⌝ }
 {

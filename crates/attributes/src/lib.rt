@@ -1,4 +1,4 @@
-// The path attributes of an UPDATE.
+//! The path attributes of an UPDATE.
 mod as_paths;
 mod kinds;
 mod numbers;
@@ -9,7 +9,7 @@ use route::Communities;
 use route::Path;
 pub use values::read_attribute;
 
-// The attributes that are known.
+/// The attributes that are known.
 #[derive(Clone, Copy)]
 pub enum Kind {
     Origin,
@@ -21,14 +21,14 @@ pub enum Kind {
     Other,
 }
 
-// Who is at the other end of a session.
+/// Who is at the other end of a session.
 #[derive(Clone, Copy)]
 pub struct Peer {
     pub asn: u32,
     pub address: u32,
 }
 
-// What is used of an attribute.
+/// What is used of an attribute.
 #[derive(Clone, Copy)]
 pub enum Value {
     Path(Path),

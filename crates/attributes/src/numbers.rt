@@ -1,4 +1,4 @@
-// Numbers of 4 bytes, read into a row.
+//! Numbers of 4 bytes, read into a row.
 ghost use mathlib.Core.List.{_++_};
 ghost use mathlib.Core.Path.{_≡_};
 ghost use Prim.Native.Nat.{_+_, _≤_};
@@ -8,7 +8,7 @@ ghost use Rattle.wire.specs.Bytes.{numbers};
 use wire::skip;
 use wire::u32_of;
 
-// Writes the numbers of the bytes behind the first `count` of the row, and says how many there are then.
+/// Writes the numbers of the bytes behind the first `count` of the row, and says how many there are then.
 pub fn push_numbers(bytes: &[u8], row: &mut [u32], count: usize) -> usize
     requires { ⌜ count + length (numbers (now bytes)) ≤ length (now row) ⌝ }
     ensures count { λ r. ⌜ r ≡ count + length (numbers (now (bytes .entry))) ⌝ }

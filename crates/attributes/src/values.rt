@@ -1,4 +1,4 @@
-// What an attribute says.
+//! What an attribute says.
 ghost use mathlib.Core.Bool.{cond};
 ghost use mathlib.Core.Path.{_≡_};
 ghost use lib.Dec.{eqb, leb};
@@ -24,7 +24,7 @@ use route::Path;
 use wire::byte_at;
 use wire::u32_of;
 
-// What the attribute says, or what is wrong with it.
+/// What the attribute says, or what is wrong with it.
 pub fn read_attribute(attribute: &[u8], peer: Peer) -> Result<Value, Fault>
     ensures { λ r. ⌜ readingOf meaningOf r ≡ readAttribute (peerOf peer) (now (attribute .entry)) ⌝ }
 {
@@ -35,7 +35,7 @@ pub fn read_attribute(attribute: &[u8], peer: Peer) -> Result<Value, Fault>
     read_value(Kind::of(byte_at(attribute, 1)), value_of(attribute), peer)
 }
 
-// The value of an attribute of the right form.
+/// The value of an attribute of the right form.
 fn read_value(kind: Kind, value: &[u8], peer: Peer) -> Result<Value, Fault>
     ensures { λ r. ⌜ readingOf meaningOf r ≡ readValue (peerOf peer) kind (now (value .entry)) ⌝ }
 {
@@ -57,7 +57,7 @@ fn as_value(path: Result<Path, Fault>) -> Result<Value, Fault>
     }
 }
 
-// A next hop is the peer's address.
+/// A next hop is the peer's address.
 fn read_next_hop(value: &[u8], address: u32) -> Result<Value, Fault>
     ensures { λ r. ⌜ readingOf meaningOf r ≡ cond (eqb (u32Of (now (value .entry))) address) (got InNextHop) (failed 7) ⌝ }
 {
@@ -68,7 +68,7 @@ fn read_next_hop(value: &[u8], address: u32) -> Result<Value, Fault>
     }
 }
 
-// Up to 8 communities, in rising order, each once.
+/// Up to 8 communities, in rising order, each once.
 fn read_communities(value: &[u8]) -> Result<Value, Fault>
     ensures { λ r. ⌜ readingOf meaningOf r ≡ cond (leb (length (numbers (now (value .entry)))) 8) (got (InCommunities (sorted (numbers (now (value .entry)))))) (failed 6) ⌝ }
 {

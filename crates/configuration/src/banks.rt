@@ -1,4 +1,4 @@
-// A text is read beside the policies in force, and takes their place only when it is whole.
+//! A text is read beside the policies in force, and takes their place only when it is whole.
 ghost use mathlib.Core.Path.{_≡_};
 ghost use Rattle.configuration.specs.Meant.{TakesPlace, inForce};
 ghost use Rattle.policy.specs.Meant.{policyOf, verdictOf};

@@ -1,4 +1,4 @@
-// What the program says of a text that it refuses.
+//! What the program says of a text that it refuses.
 ghost use mathlib.Core.Path.{_≡_};
 ghost use Rattle.configuration.specs.Messages.{awaitedText, foundIn, signBytes};
 ghost use Rattle.fault.specs.declared.Fault.the-variants.{PolicyText};

@@ -1,4 +1,4 @@
-// The header of a message.
+//! The header of a message.
 ghost use mathlib.Core.Path.{_≡_};
 ghost use Rattle.message.specs.Header.{areOnes, hasLength, isFramed, kindNamed, kindOf};
 ghost use Rattle.message.specs.Steps.{HeaderSteps, OnesSteps};
@@ -8,7 +8,7 @@ use wire::first;
 use wire::skip;
 use wire::u16_of;
 
-// The kind of a message whose header is right.
+/// The kind of a message whose header is right.
 pub fn read_header(message: &[u8]) -> Option<Kind>
     ensures { λ r. ⌜ r ≡ kindOf (now (message .entry)) ⌝ }
 {
@@ -19,7 +19,7 @@ pub fn read_header(message: &[u8]) -> Option<Kind>
     kind_named(byte_at(message, 18))
 }
 
-// Whether the marker, the length and the kind of the message are right.
+/// Whether the marker, the length and the kind of the message are right.
 fn is_framed(message: &[u8]) -> bool
     ensures { λ r. ⌜ r ≡ isFramed (now (message .entry)) ⌝ }
 {
@@ -30,7 +30,7 @@ fn is_framed(message: &[u8]) -> bool
         && has_length(kind_named(byte_at(message, 18)), length)
 }
 
-// Whether each byte is 255.
+/// Whether each byte is 255.
 fn are_ones(bytes: &[u8]) -> bool
     ensures { λ r. ⌜ r ≡ areOnes (now (bytes .entry)) ⌝ }
 {
@@ -55,7 +55,7 @@ fn kind_named(number: u8) -> Option<Kind>
     }
 }
 
-// Whether a message of the kind can be so long.
+/// Whether a message of the kind can be so long.
 fn has_length(named: Option<Kind>, length: usize) -> bool
     ensures { λ r. ⌜ r ≡ hasLength named length ⌝ }
 {

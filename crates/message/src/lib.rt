@@ -1,4 +1,4 @@
-// Reading BGP messages.
+//! Reading BGP messages.
 mod header;
 mod opens;
 mod reading;
@@ -8,7 +8,7 @@ pub use reading::read;
 pub use update::Attributes;
 pub use update::Content;
 
-// What a session is at: its OPEN is sent and the peer's awaited, or both have come.
+/// What a session is at: its OPEN is sent and the peer's awaited, or both have come.
 #[derive(Clone, Copy)]
 pub enum State {
     OpenSent,

@@ -1,4 +1,4 @@
-// OPEN messages.
+//! OPEN messages.
 ghost use mathlib.Core.Path.{_≡_};
 ghost use Rattle.attributes.specs.Meant.{peerOf, readingOf};
 ghost use Rattle.message.specs.Meant.{openOf};
@@ -13,15 +13,15 @@ use wire::skip;
 use wire::u16_of;
 use wire::u32_of;
 
-// The capability of networks in 4 bytes, and the parameter that holds capabilities.
+/// The capability of networks in 4 bytes, and the parameter that holds capabilities.
 const FOUR_OCTET_ASN: u8 = 65;
 
 const CAPABILITIES: u8 = 2;
 
-// What stands in place of a network that does not fit 2 bytes.
+/// What stands in place of a network that does not fit 2 bytes.
 const AS_TRANS: u16 = 23456;
 
-// An OPEN that is the peer's.
+/// An OPEN that is the peer's.
 pub fn read_open(message: &[u8], peer: Peer) -> Result<Open, Fault>
     ensures { λ r. ⌜ readingOf openOf r ≡ readOpen (peerOf peer) (now (message .entry)) ⌝ }
 {
@@ -66,7 +66,7 @@ fn is_offer(offered: Option<bool>) -> bool
     }
 }
 
-// Whether a parameter offers networks in 4 bytes; nothing where one is wrong.
+/// Whether a parameter offers networks in 4 bytes; nothing where one is wrong.
 fn read_parameters(parameters: &[u8], asn: u32) -> Option<bool>
     ensures { λ r. ⌜ r ≡ offers (parameterOffer asn) (now (parameters .entry)) ⌝ }
 {
@@ -96,7 +96,7 @@ fn parameter_offer(parameter: &[u8], asn: u32) -> Option<bool>
     }
 }
 
-// Whether a capability offers networks in 4 bytes; nothing where one is wrong.
+/// Whether a capability offers networks in 4 bytes; nothing where one is wrong.
 fn read_capabilities(capabilities: &[u8], asn: u32) -> Option<bool>
     ensures { λ r. ⌜ r ≡ offers (capabilityOffer asn) (now (capabilities .entry)) ⌝ }
 {
@@ -129,7 +129,7 @@ fn capability_offer(capability: &[u8], asn: u32) -> Option<bool>
     }
 }
 
-// How many bytes the first parameter or capability takes.
+/// How many bytes the first parameter or capability takes.
 fn field_size(fields: &[u8]) -> usize
     ensures { λ r. ⌜ r ≡ fieldSize (now (fields .entry)) ⌝ }
 {

@@ -1,4 +1,4 @@
-// Reading a message.
+//! Reading a message.
 ghost use mathlib.Core.Path.{_≡_};
 ghost use Rattle.attributes.specs.Meant.{peerOf, readingOf};
 ghost use Rattle.message.specs.Meant.{messageOf, openOf};
@@ -16,7 +16,7 @@ use update::Content;
 use update::read_update;
 use wire::byte_at;
 
-// The message that the bytes are, or the fault that ends the reading.
+/// The message that the bytes are, or the fault that ends the reading.
 pub fn read(state: State, peer: Peer, message: &[u8]) -> Result<Message, Fault>
     ensures { λ r. ⌜ readingOf messageOf r ≡ readMessage state (peerOf peer) (now (message .entry)) ⌝ }
 {

@@ -1,4 +1,4 @@
-// Reads messages from a table and prints what each says, or its fault. A row is a name, the state and the peer, and the message in hexadecimal digits; `00*7` stands for 7 such bytes. Then prints the messages that are written.
+//! Reads messages from a table and prints what each says, or its fault. A row is a name, the state and the peer, and the message in hexadecimal digits; `00*7` stands for 7 such bytes. Then prints the messages that are written.
 ghost use Prim.Native.Nat.{_<_};
 use fault::Fault;
 use message::Attributes;
@@ -22,7 +22,7 @@ use std::io;
 use update::split_update;
 use wire::Prefixes;
 
-// The value of a hexadecimal digit.
+/// The value of a hexadecimal digit.
 fn digit(b: u8) -> u8
     ensures { λ r. ⌜ r < 16 ⌝ }
 {
@@ -33,7 +33,7 @@ fn digit(b: u8) -> u8
     }
 }
 
-// Adds the bytes that the digits stand for, so many times.
+/// Adds the bytes that the digits stand for, so many times.
 fn push_digits(bytes: &mut Vec<u8>, digits: &str, times: u16) -> Result<(), AllocError> {
     let digits = digits.as_bytes();
     for _ in 0..times {
@@ -110,7 +110,7 @@ fn show_message(rt: &LibcRuntime, message: Message, bytes: &[u8]) -> io::Result<
     }
 }
 
-// Reads one message, as the peer that the letter stands for: o and O await an OPEN, e and E are established.
+/// Reads one message, as the peer that the letter stands for: o and O await an OPEN, e and E are established.
 fn show(rt: &LibcRuntime, who: &str, bytes: &[u8]) -> io::Result<()> {
     let state = if who == "o" || who == "O" {
         State::OpenSent
@@ -154,7 +154,7 @@ fn show_row(rt: &LibcRuntime, line: &str) -> io::Result<()> {
     println!(rt, "")
 }
 
-// Prints what was written into a buffer, and the byte behind it.
+/// Prints what was written into a buffer, and the byte behind it.
 fn show_written(
     rt: &LibcRuntime,
     name: &str,

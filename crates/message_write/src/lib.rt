@@ -1,4 +1,4 @@
-// Writing BGP messages.
+//! Writing BGP messages.
 mod parts;
 mod putting;
 mod writing;

@@ -1,4 +1,4 @@
-// The parts of an UPDATE.
+//! The parts of an UPDATE.
 ghost use mathlib.Core.Bool.{true};
 ghost use mathlib.Core.Path.{_≡_};
 ghost use Prim.Native.Nat.{ℕ, _+_, _*_, _≤_};
@@ -17,12 +17,12 @@ use route::Route;
 use route::formed_law;
 use wire::first;
 
-// Flags of attributes, as bits.
+/// Flags of attributes, as bits.
 const OPTIONAL: u8 = 0x80;
 
 const TRANSITIVE: u8 = 0x40;
 
-// How many bytes the prefix takes.
+/// How many bytes the prefix takes.
 pub fn prefix_size(prefix: &Prefix) -> usize
     ensures value { λ r. ⌜ r ≡ length (prefixBytes (meant (now (prefix .entry)))) ⌝ }
     ensures bound { λ r. ⌜ r ≤ 4 ⌝ }
@@ -42,7 +42,7 @@ pub fn put_prefix(buffer: &mut [u8], place: usize, prefix: &Prefix) -> usize
     put_bytes(buffer, end, first(&address, (usize::from(bits) + 7) / 8))
 }
 
-// How many bytes the attributes of the route take, with any next hop.
+/// How many bytes the attributes of the route take, with any next hop.
 pub fn attributes_size(route: &Route) -> usize
     ensures value { λ r. ⌜ ((hop : ℕ) → r ≡ length (attributesBytes (routeOf (now (route .entry))) hop)) ⌝ }
     ensures bound { λ r. ⌜ r ≤ 190 ⌝ }
@@ -64,7 +64,7 @@ fn communities_size(communities: &[u32]) -> usize
     }
 }
 
-// The attributes of the route, in rising order of their types.
+/// The attributes of the route, in rising order of their types.
 pub fn put_attributes(buffer: &mut [u8], place: usize, route: &Route, next_hop: u32) -> usize
     requires { ⌜ place + length (attributesBytes (routeOf (now route)) «next_hop») ≤ length (now buffer) ⌝ }
     ensures { λ r. ⌜ Put place (attributesBytes (routeOf (now (route .entry))) «next_hop») (now (buffer .entry)) (now (buffer .exit)) r ⌝ }
@@ -90,7 +90,7 @@ fn put_path(buffer: &mut [u8], place: usize, asns: &[u32]) -> usize
     put_numbers(buffer, end, asns)
 }
 
-// An attribute whose value is a number of 4 bytes.
+/// An attribute whose value is a number of 4 bytes.
 fn put_attribute(buffer: &mut [u8], place: usize, flags: u8, kind: u8, value: u32) -> usize
     requires { ⌜ place + 7 ≤ length (now buffer) ⌝ }
     ensures { λ r. ⌜ Put place (numberBytes flags kind value) (now (buffer .entry)) (now (buffer .exit)) r ⌝ }

@@ -1,4 +1,4 @@
-// Writing bytes into a lent buffer, one part after the other.
+//! Writing bytes into a lent buffer, one part after the other.
 ghost use mathlib.Core.Path.{_≡_};
 ghost use Prim.Native.Nat.{_+_, _*_, _≤_};
 ghost use lib.ListN.{length as count};
@@ -7,7 +7,7 @@ ghost use Rattle.message_write.specs.Steps.{HeaderSteps, JoinSteps, NumberStep
 ghost use Rattle.message_write.specs.Written.{headerBytes, numbersBytes};
 ghost use Rattle.wire.specs.Bytes.{bytes32};
 
-// Writes the bytes from a place on, and says where they end.
+/// Writes the bytes from a place on, and says where they end.
 pub fn put_bytes(buffer: &mut [u8], place: usize, bytes: &[u8]) -> usize
     requires { ⌜ place + count (now bytes) ≤ count (now buffer) ⌝ }
     ensures { λ r. ⌜ Put place (now (bytes .entry)) (now (buffer .entry)) (now (buffer .exit)) r ⌝ }
@@ -17,7 +17,7 @@ pub fn put_bytes(buffer: &mut [u8], place: usize, bytes: &[u8]) -> usize
     end
 }
 
-// Writes numbers, in 4 bytes each.
+/// Writes numbers, in 4 bytes each.
 pub fn put_numbers(buffer: &mut [u8], place: usize, numbers: &[u32]) -> usize
     requires { ⌜ place + 4 * count (now numbers) ≤ count (now buffer) ⌝ }
     ensures { λ r. ⌜ Put place (numbersBytes (now (numbers .entry))) (now (buffer .entry)) (now (buffer .exit)) r ⌝ }
@@ -30,7 +30,7 @@ pub fn put_numbers(buffer: &mut [u8], place: usize, numbers: &[u32]) -> usize
     end
 }
 
-// Writes a number in 4 bytes.
+/// Writes a number in 4 bytes.
 pub fn put_number(buffer: &mut [u8], place: usize, number: u32) -> usize
     requires { ⌜ place + 4 ≤ count (now buffer) ⌝ }
     ensures { λ r. ⌜ Put place (bytes32 number) (now (buffer .entry)) (now (buffer .exit)) r ⌝ }
@@ -38,7 +38,7 @@ pub fn put_number(buffer: &mut [u8], place: usize, number: u32) -> usize
     put_bytes(buffer, place, &number.to_be_bytes())
 }
 
-// Writes the header of a message.
+/// Writes the header of a message.
 pub fn put_header(buffer: &mut [u8], kind: u8, length: u16) -> usize
     requires { ⌜ 19 ≤ count (now buffer) ⌝ }
     ensures put { λ r. ⌜ Put 0 (headerBytes kind length) (now (buffer .entry)) (now (buffer .exit)) r ⌝ }

@@ -1,4 +1,4 @@
-// The messages that are sent. Each is written at the front of the lent buffer, and its length is answered; where there is no room for it, nothing is written.
+//! The messages that are sent. Each is written at the front of the lent buffer, and its length is answered; where there is no room for it, nothing is written.
 ghost use mathlib.Core.Path.{_≡_};
 ghost use Prim.Native.Nat.{_+_, _≤_};
 ghost use lib.ListN.{length as count};
@@ -20,7 +20,7 @@ use fault::Fault;
 use prefix::Prefix;
 use route::Route;
 
-// The kinds of messages.
+/// The kinds of messages.
 const OPEN: u8 = 1;
 
 const UPDATE: u8 = 2;
@@ -39,7 +39,7 @@ pub fn write_keepalive(buffer: &mut [u8]) -> Option<usize>
     Some(put_header(buffer, KEEPALIVE, 19))
 }
 
-// A NOTIFICATION that ends the session for a fault.
+/// A NOTIFICATION that ends the session for a fault.
 pub fn write_notification(buffer: &mut [u8], fault: Fault) -> Option<usize>
     ensures { λ r. ⌜ Wrote (notificationBytes (code fault)) (now (buffer .entry)) (now (buffer .exit)) r ⌝ }
 {
@@ -51,7 +51,7 @@ pub fn write_notification(buffer: &mut [u8], fault: Fault) -> Option<usize>
     Some(put_bytes(buffer, end, &[6, fault.code()]))
 }
 
-// An OPEN of the own network and address.
+/// An OPEN of the own network and address.
 pub fn write_open(buffer: &mut [u8], asn: u32, address: u32) -> Option<usize>
     ensures { λ r. ⌜ Wrote (openBytes asn address) (now (buffer .entry)) (now (buffer .exit)) r ⌝ }
 {
@@ -76,14 +76,14 @@ fn put_open(buffer: &mut [u8], place: usize, asn: u32, address: u32) -> usize
     put_number(buffer, end, asn)
 }
 
-// The network in 2 bytes, or what stands in its place.
+/// The network in 2 bytes, or what stands in its place.
 fn short_asn(asn: u32) -> u16
     ensures { λ r. ⌜ r ≡ shortAsn asn ⌝ }
 {
     if asn < 65536 { asn as u16 } else { 23456 }
 }
 
-// An UPDATE that withdraws one prefix.
+/// An UPDATE that withdraws one prefix.
 pub fn write_withdrawal(buffer: &mut [u8], prefix: &Prefix) -> Option<usize>
     ensures { λ r. ⌜ Wrote (withdrawalBytes (meant (now (prefix .entry)))) (now (buffer .entry)) (now (buffer .exit)) r ⌝ }
 {
@@ -99,7 +99,7 @@ pub fn write_withdrawal(buffer: &mut [u8], prefix: &Prefix) -> Option<usize>
     Some(put_bytes(buffer, end, &[0, 0]))
 }
 
-// An UPDATE that announces one route, by a next hop.
+/// An UPDATE that announces one route, by a next hop.
 pub fn write_announcement(buffer: &mut [u8], route: &Route, next_hop: u32) -> Option<usize>
     ensures { λ r. ⌜ Wrote (announcementBytes (routeOf (now (route .entry))) «next_hop») (now (buffer .entry)) (now (buffer .exit)) r ⌝ }
 {

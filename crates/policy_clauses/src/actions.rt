@@ -1,4 +1,4 @@
-// What a clause does.
+//! What a clause does.
 ghost use mathlib.Core.Path.{_≡_};
 ghost use Rattle.policy_clauses.specs.Meant.{Reads, asIs};
 ghost use Rattle.policy_clauses.specs.Reading.{actionAt, actionOf, times};
@@ -14,7 +14,7 @@ use policy_words::is_same;
 use policy_words::number_of;
 use text_tokens::Reader;
 
-// The action that stands next.
+/// The action that stands next.
 pub(crate) fn action(reader: &mut Reader<'_>) -> Result<Action, Refusal>
     ensures { λ r. ⌜ Reads asIs actionOf (left (now (reader .entry))) (left (now (reader .exit))) r ⌝ }
 {
@@ -22,7 +22,7 @@ pub(crate) fn action(reader: &mut Reader<'_>) -> Result<Action, Refusal>
     action_at(reader, word.at, action_word(word.text))
 }
 
-// The same behind its first word, which stands at the offset.
+/// The same behind its first word, which stands at the offset.
 fn action_at(reader: &mut Reader<'_>, at: usize, first: ActionWord) -> Result<Action, Refusal>
     ensures { λ r. ⌜ Reads asIs (actionAt at first) (left (now (reader .entry))) (left (now (reader .exit))) r ⌝ }
 {
@@ -45,7 +45,7 @@ fn action_at(reader: &mut Reader<'_>, at: usize, first: ActionWord) -> Result<Ac
     }
 }
 
-// `times` and how often: at most 8 times.
+/// `times` and how often: at most 8 times.
 fn times(reader: &mut Reader<'_>) -> Result<u8, Refusal>
     ensures { λ r. ⌜ Reads asIs times (left (now (reader .entry))) (left (now (reader .exit))) r ⌝ }
 {

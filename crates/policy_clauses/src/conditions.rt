@@ -1,4 +1,4 @@
-// What a clause asks, and whole clauses.
+//! What a clause asks, and whole clauses.
 ghost use mathlib.Core.Bool.{false};
 ghost use mathlib.Core.Path.{_≡_};
 ghost use Rattle.policy.specs.Meant.{partsOf};
@@ -35,7 +35,7 @@ pub fn clause(reader: &mut Reader<'_>, names: &Names<'_>) -> Result<Clause, Refu
     Ok(Clause { condition, action })
 }
 
-// The condition that stands next, with the `then` behind it.
+/// The condition that stands next, with the `then` behind it.
 fn condition(reader: &mut Reader<'_>, names: &Names<'_>) -> Result<Condition, Refusal>
     ensures { λ r. ⌜ Reads partsOf (condition (namesOf (now (names .entry)))) (left (now (reader .entry))) (left (now (reader .exit))) r ⌝ }
 {
@@ -67,7 +67,7 @@ fn condition(reader: &mut Reader<'_>, names: &Names<'_>) -> Result<Condition, Re
     }
 }
 
-// The part that stands next.
+/// The part that stands next.
 fn part(reader: &mut Reader<'_>, names: &Names<'_>) -> Result<Part, Refusal>
     ensures { λ r. ⌜ Reads asIs (part (namesOf (now (names .entry))) false) (left (now (reader .entry))) (left (now (reader .exit))) r ⌝ }
 {
@@ -84,7 +84,7 @@ fn part(reader: &mut Reader<'_>, names: &Names<'_>) -> Result<Part, Refusal>
     }
 }
 
-// A test behind its first word, which stands at the offset.
+/// A test behind its first word, which stands at the offset.
 fn test_at(
     reader: &mut Reader<'_>,
     names: &Names<'_>,
@@ -118,7 +118,7 @@ fn test_at(
     }
 }
 
-// A test of the prefix, behind `in` or `within`.
+/// A test of the prefix, behind `in` or `within`.
 fn range_test(
     reader: &mut Reader<'_>,
     names: &Names<'_>,
@@ -143,7 +143,7 @@ fn range_test(
     }
 }
 
-// The number of the list that is named next.
+/// The number of the list that is named next.
 fn list_name(reader: &mut Reader<'_>, names: &Names<'_>) -> Result<u8, Refusal>
     ensures { λ r. ⌜ Reads asIs (listName (namesOf (now (names .entry)))) (left (now (reader .entry))) (left (now (reader .exit))) r ⌝ }
 {

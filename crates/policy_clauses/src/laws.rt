@@ -1,4 +1,4 @@
-// Facts about reading that the code cites by a call: the calls do nothing.
+//! Facts about reading that the code cites by a call: the calls do nothing.
 ghost use Rattle.policy_clauses.specs.Steps.{NameSteps, PartSteps, PartsSteps, RowSteps, WordSteps};
 
 pub(crate) fn name_law() -> bool

@@ -1,4 +1,4 @@
-// The names of the lists so far.
+//! The names of the lists so far.
 ghost use mathlib.Core.Bool.{cond};
 ghost use mathlib.Core.List.{[], _∷_, _++_, map};
 ghost use mathlib.Core.Path.{_≡_};

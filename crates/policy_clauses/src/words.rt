@@ -1,4 +1,4 @@
-// One word or number at a time.
+//! One word or number at a time.
 ghost use mathlib.Core.Path.{_≡_};
 ghost use Rattle.policy_clauses.specs.Meant.{Reads, asIs, spelledOf};
 ghost use Rattle.policy_clauses.specs.Reading.{number, word};

@@ -1,4 +1,4 @@
-// Facts about reading that the code cites by a call: the calls do nothing.
+//! Facts about reading that the code cites by a call: the calls do nothing.
 ghost use Rattle.policy_items.specs.Limits.{LimitLaws};
 ghost use Rattle.policy_items.specs.Steps.{ClauseSteps, PoolSteps, PrefixSteps};
 

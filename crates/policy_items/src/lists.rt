@@ -1,4 +1,4 @@
-// Lists of prefixes.
+//! Lists of prefixes.
 ghost use mathlib.Core.Path.{_≡_};
 ghost use Rattle.policy.specs.Meant.{prefixesOf};
 ghost use Rattle.policy_clauses.specs.Meant.{Reads, namesOf};

@@ -1,4 +1,4 @@
-// The clauses of all policies of a text.
+//! The clauses of all policies of a text.
 ghost use mathlib.Core.Bool.{true};
 ghost use mathlib.Core.List.{[], map};
 ghost use mathlib.Core.Path.{_≡_};

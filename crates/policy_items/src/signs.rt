@@ -1,4 +1,4 @@
-// Signs, and what begins a clause.
+//! Signs, and what begins a clause.
 ghost use mathlib.Core.Path.{_≡_};
 ghost use Rattle.policy_clauses.specs.Meant.{Reads, asIs};
 ghost use Rattle.policy_items.specs.Items.{comma, equals, opens};
@@ -13,7 +13,7 @@ use text_tokens::Kind;
 use text_tokens::Reader;
 use text_tokens::Sign;
 
-// `=` on the same line.
+/// `=` on the same line.
 pub(crate) fn equals(reader: &mut Reader<'_>) -> Result<(), Refusal>
     ensures { λ r. ⌜ Reads asIs equals (left (now (reader .entry))) (left (now (reader .exit))) r ⌝ }
 {
@@ -43,7 +43,7 @@ pub fn open(reader: &mut Reader<'_>) -> Result<(), Refusal>
     }
 }
 
-// The offset of a comma on the same line; where none is next, nothing is taken.
+/// The offset of a comma on the same line; where none is next, nothing is taken.
 pub(crate) fn comma(reader: &mut Reader<'_>) -> Option<usize>
     ensures { λ r. ⌜ Cases r ((comma (left (now (reader .entry))) ≡ None) × (left (now (reader .exit)) ≡ left (now (reader .entry)))) (λ at. comma (left (now (reader .entry))) ≡ Some (at, left (now (reader .exit)))) ⌝ }
 {
@@ -61,7 +61,7 @@ pub(crate) fn comma(reader: &mut Reader<'_>) -> Option<usize>
     }
 }
 
-// What a token begins within a policy.
+/// What a token begins within a policy.
 #[derive(Clone, Copy)]
 pub(crate) enum Start {
     Clause,

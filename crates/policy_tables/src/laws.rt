@@ -1,4 +1,4 @@
-// Facts about policies that the code cites by a call: the calls do nothing.
+//! Facts about policies that the code cites by a call: the calls do nothing.
 ghost use Rattle.policy_tables.specs.Laws.{TextLaws};
 ghost use Rattle.policy_tables.specs.Steps.{FitSteps, ItemSteps, ListSteps, LookupSteps, NamedSteps, SlotSteps};
 

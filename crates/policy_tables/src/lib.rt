@@ -23,7 +23,7 @@ pub enum Direction {
     Export,
 }
 
-// Where the clauses of a policy stand in the pool; a policy that the text does not name has none.
+/// Where the clauses of a policy stand in the pool; a policy that the text does not name has none.
 #[derive(Clone, Copy)]
 struct Slot {
     named: bool,

@@ -1,4 +1,4 @@
-// The policies of a peer.
+//! The policies of a peer.
 ghost use mathlib.Core.List.{[], map};
 ghost use mathlib.Core.Path.{_≡_};
 ghost use Prim.Native.Nat.{_<_};
@@ -34,7 +34,7 @@ impl Policies {
         Policy { clauses, lists }
     }
 
-    // The clauses of the policy at the place.
+    /// The clauses of the policy at the place.
     fn clauses_at(&self, place: usize) -> &[Clause]
         requires { ⌜ place < 128 ⌝ }
         ensures { λ r. ⌜ map writtenOf (now r) ≡ valueOr (getD (contentOf (now (self .entry)) .policies) place None) [] ⌝ }

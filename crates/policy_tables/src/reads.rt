@@ -1,4 +1,4 @@
-// Reading the lists and policies of a text.
+//! Reading the lists and policies of a text.
 ghost use mathlib.Core.Path.{_≡_};
 ghost use Prim.Native.Nat.{_<_};
 ghost use lib.ListN.{getD, length};
@@ -33,7 +33,7 @@ use text_tokens::Reader;
 use text_tokens::Token;
 
 impl Policies {
-    // Reads a list, behind its `list` at the offset.
+    /// Reads a list, behind its `list` at the offset.
     fn read_list<'a>(
         &mut self,
         reader: &mut Reader<'a>,
@@ -58,7 +58,7 @@ impl Policies {
         Ok(())
     }
 
-    // Reads a policy, behind its `from` or `to`.
+    /// Reads a policy, behind its `from` or `to`.
     fn read_policy(
         &mut self,
         reader: &mut Reader<'_>,
@@ -83,7 +83,7 @@ impl Policies {
         Ok(())
     }
 
-    // The place of the policy of the peer whose number is next, if the text has not named it.
+    /// The place of the policy of the peer whose number is next, if the text has not named it.
     fn free_place(
         &self,
         reader: &mut Reader<'_>,
@@ -111,7 +111,7 @@ impl Policies {
         Ok(place)
     }
 
-    // Whether the text has named the policy at the place.
+    /// Whether the text has named the policy at the place.
     fn is_named(&self, place: usize) -> bool
         requires { ⌜ place < 128 ⌝ }
         ensures { λ r. ⌜ r ≡ isSome (getD (contentOf (now (self .entry)) .policies) place None) ⌝ }
@@ -123,7 +123,7 @@ impl Policies {
 }
 
 impl Policies {
-    // Reads a list or a policy, from its first token on.
+    /// Reads a list or a policy, from its first token on.
     fn read_item<'a>(
         &mut self,
         reader: &mut Reader<'a>,
@@ -154,7 +154,7 @@ impl Policies {
         }
     }
 
-    // Reads lists and policies up to the end of the text.
+    /// Reads lists and policies up to the end of the text.
     fn read_items<'a>(
         &mut self,
         reader: &mut Reader<'a>,

@@ -1,4 +1,4 @@
-// Making, clearing and looking up policies.
+//! Making, clearing and looking up policies.
 ghost use mathlib.Core.Bool.{true};
 ghost use mathlib.Core.List.{List, [], map};
 ghost use mathlib.Core.Path.{_≡_};
@@ -29,7 +29,7 @@ impl Policies {
         })
     }
 
-    // Takes all lists and policies out.
+    /// Takes all lists and policies out.
     pub(crate) fn clear(&mut self)
         ensures { λ _. ⌜ draftOf (now (self .exit)) [] ≡ empty ⌝ }
     {
@@ -51,7 +51,7 @@ fn free_slots() -> [Slot; 128]
 }
 
 impl Direction {
-    // The place of the peer's policy in the row.
+    /// The place of the peer's policy in the row.
     pub(crate) fn place_of(self, peer: u8) -> usize
         ensures { λ r. ⌜ r ≡ placeOf self peer ⌝ }
     {

@@ -6,7 +6,7 @@ use policy::Verdict;
 use prefix::Prefix;
 use std::test::*;
 
-// What becomes of a path by prepending 5 so many times; none where the route is rejected, with the path left as it is.
+/// What becomes of a path by prepending 5 so many times; none where the route is rejected, with the path left as it is.
 fn prepended(path: &[u32], times: u8) -> Result<Option<usize>, Fail> {
     let mut route = route(Prefix::whole(), path, &[])?;
     match (Action::Prepend { asn: 5, times }).act(&mut route) {
@@ -37,7 +37,7 @@ fn prepends() -> Result<(), Fail> {
     check_eq(prepended(&[7; 32], 0)?, Some(32))
 }
 
-// How many communities there are after adding one; none where the route is rejected, with those left that it had.
+/// How many communities there are after adding one; none where the route is rejected, with those left that it had.
 fn added(communities: &[u32], community: u32) -> Result<Option<usize>, Fail> {
     let mut route = route(Prefix::whole(), &[7], communities)?;
     match Action::AddCommunity(community).act(&mut route) {

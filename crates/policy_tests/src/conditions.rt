@@ -14,7 +14,7 @@ use prefix::Prefix;
 use route::Route;
 use std::test::*;
 
-// The list of 10.0.0.0/16, 10.1.0.0/16 and so on, of so many prefixes.
+/// The list of 10.0.0.0/16, 10.1.0.0/16 and so on, of so many prefixes.
 fn sixteens(count: u8) -> Result<PrefixList, Fail> {
     let mut list = PrefixList::new();
     for i in 0..count {
@@ -27,7 +27,7 @@ fn route_of(prefix: Prefix) -> Result<Route, Fail> {
     route(prefix, &[7], &[])
 }
 
-// Whether the prefix is in the list, and whether it is within one of it.
+/// Whether the prefix is in the list, and whether it is within one of it.
 fn asks(list: PrefixList, prefix: Prefix, listed: bool, covered: bool) -> Result<(), Fail> {
     let route = route_of(prefix)?;
     check_eq(fits(Test::PrefixIn { list: 0 }, &[list], &route)?, listed)?;
@@ -81,7 +81,7 @@ fn length_0_and_24() -> Result<(), Fail> {
     )
 }
 
-// A list that is not there holds nothing; of those that are there the number says which.
+/// A list that is not there holds nothing; of those that are there the number says which.
 #[test]
 fn lists_by_number() -> Result<(), Fail> {
     let lists = [list(&[])?, list(&[Prefix::whole()])?];
@@ -149,7 +149,7 @@ fn communities_on_the_route() -> Result<(), Fail> {
     check(!has(&[1, 2, 3, 4, 5, 6, 7, 8], 9)?)
 }
 
-// With no parts a condition holds, and of 16 each must; a 17th is not taken.
+/// With no parts a condition holds, and of 16 each must; a 17th is not taken.
 #[test]
 fn conditions_of_0_to_16_parts() -> Result<(), Fail> {
     let route = route_of(Prefix::whole())?;

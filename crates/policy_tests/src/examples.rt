@@ -10,7 +10,7 @@ use route::Path;
 use route::Route;
 use std::test::*;
 
-// What must be there for the test to go on.
+/// What must be there for the test to go on.
 pub fn there<T>(value: Option<T>) -> Result<T, Fail> {
     match value {
         Some(value) => Ok(value),
@@ -18,12 +18,12 @@ pub fn there<T>(value: Option<T>) -> Result<T, Fail> {
     }
 }
 
-// The prefix a.b.c.d/length.
+/// The prefix a.b.c.d/length.
 pub fn prefix(address: [u8; 4], length: u8) -> Result<Prefix, Fail> {
     there(Prefix::new(u32::from_be_bytes(address), length))
 }
 
-// A route of that prefix, path and communities, with local preference 100 and MED 7.
+/// A route of that prefix, path and communities, with local preference 100 and MED 7.
 pub fn route(prefix: Prefix, path: &[u32], communities: &[u32]) -> Result<Route, Fail> {
     Ok(Route {
         prefix,
@@ -36,7 +36,7 @@ pub fn route(prefix: Prefix, path: &[u32], communities: &[u32]) -> Result<Route,
     })
 }
 
-// The list of these prefixes.
+/// The list of these prefixes.
 pub fn list(prefixes: &[Prefix]) -> Result<PrefixList, Fail> {
     let mut list = PrefixList::new();
     for prefix in prefixes {
@@ -45,12 +45,12 @@ pub fn list(prefixes: &[Prefix]) -> Result<PrefixList, Fail> {
     Ok(list)
 }
 
-// Whether a part of a condition is negated.
+/// Whether a part of a condition is negated.
 pub const IS: bool = false;
 
 pub const NOT: bool = true;
 
-// The condition that has these parts.
+/// The condition that has these parts.
 pub fn condition(parts: &[(bool, Test)]) -> Result<Condition, Fail> {
     let mut condition = Condition::new();
     for (negated, test) in parts {
@@ -62,7 +62,7 @@ pub fn condition(parts: &[(bool, Test)]) -> Result<Condition, Fail> {
     Ok(condition)
 }
 
-// Whether the test fits the route: alone, as a part and as a condition, where the negated one says the contrary.
+/// Whether the test fits the route: alone, as a part and as a condition, where the negated one says the contrary.
 pub fn fits(test: Test, lists: &[PrefixList], route: &Route) -> Result<bool, Fail> {
     let fits = test.fits(lists, route);
     for negated in [false, true] {

@@ -13,7 +13,7 @@ use policy::Test;
 use policy::Verdict;
 use std::test::*;
 
-// A policy, by the parts of each clause's condition and its action, whether it accepts the route, and what it leaves of it.
+/// A policy, by the parts of each clause's condition and its action, whether it accepts the route, and what it leaves of it.
 #[derive(Clone, Copy)]
 struct Case<'a> {
     clauses: &'a [(&'a [(bool, Test)], Action)],

@@ -86,7 +86,7 @@ fn communities_rise() -> Result<(), Fail> {
     check_eq(most.as_slice(), &MANY[0..8])
 }
 
-// Also those that stand twice are counted.
+/// Also those that stand twice are counted.
 #[test]
 fn communities_of_at_most_8() -> Result<(), Fail> {
     check(Communities::of(&[]).is_some())?;

@@ -1,4 +1,4 @@
-// Which word is which keyword.
+//! Which word is which keyword.
 ghost use mathlib.Core.Path.{_≡_};
 ghost use Rattle.policy_words.specs.Words.{actionWord, itemWord, jointWord, rangeWord, testWord};
 use crate::ActionWord;

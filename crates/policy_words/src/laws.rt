@@ -1,4 +1,4 @@
-// Facts about words that the code cites by a call: the calls do nothing.
+//! Facts about words that the code cites by a call: the calls do nothing.
 ghost use mathlib.Core.List.{_∷_};
 ghost use mathlib.Core.Path.{_≡_};
 ghost use Prim.Native.Nat.{_-_, _<_};
@@ -31,7 +31,7 @@ pub(crate) fn same_law(word: &[u8], other: &[u8]) -> bool
     true
 }
 
-// Bytes are the first of them, and then the others.
+/// Bytes are the first of them, and then the others.
 pub(crate) fn split_law(bytes: &[u8]) -> bool
     ensures { λ _. ⌜ (0 < length (now (bytes .entry)) → now (bytes .entry) ≡ getD (now (bytes .entry)) 0 0 ∷ take (length (now (bytes .entry)) - 1) (drop 1 (now (bytes .entry)))) ⌝ }
 {

@@ -1,4 +1,4 @@
-// Names of lists.
+//! Names of lists.
 ghost use mathlib.Core.Path.{_≡_};
 ghost use Rattle.policy_words.specs.Words.{isName, isNameByte, isNameStart, areNameBytes};
 ghost use Rattle.std.specs.shelf.Text.{sameBytes};

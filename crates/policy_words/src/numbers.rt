@@ -1,4 +1,4 @@
-// Decimal numbers of 32 bits.
+//! Decimal numbers of 32 bits.
 ghost use mathlib.Core.Bool.{cond, true};
 ghost use mathlib.Core.Path.{_≡_};
 ghost use Prim.Native.Nat.{_+_, _-_, _*_, _^_};
@@ -17,7 +17,7 @@ pub fn number_of(word: &[u8]) -> Option<u32>
     if rest.is_empty() { Some(number) } else { None }
 }
 
-// The number in front, and the bytes behind its digits.
+/// The number in front, and the bytes behind its digits.
 pub(crate) fn leading(bytes: &[u8]) -> Option<(u32, &[u8])>
     ensures { λ r. ⌜ leadOf r ≡ leading (now (bytes .entry)) ⌝ }
 {
@@ -38,7 +38,7 @@ pub(crate) fn leading(bytes: &[u8]) -> Option<(u32, &[u8])>
     Some((number, &[]))
 }
 
-// The number with one digit more, if it has 32 bits.
+/// The number with one digit more, if it has 32 bits.
 fn with_digit(number: u32, digit: u8) -> Option<u32>
     requires { ⌜ asciiDigit digit ≡ true ⌝ }
     ensures { λ r. ⌜ r ≡ cond (ltb (number * 10 + (digit - 48)) (2 ^ 32)) (Some (number * 10 + (digit - 48))) None ⌝ }

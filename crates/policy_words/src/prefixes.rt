@@ -1,4 +1,4 @@
-// Prefixes, as 10.0.0.0/8.
+//! Prefixes, as 10.0.0.0/8.
 ghost use mathlib.Core.Path.{_≡_};
 ghost use Rattle.policy_words.specs.Meant.{leadOf};
 ghost use Rattle.policy_words.specs.Words.{addressOf, checked, octet, prefixOf};
@@ -36,7 +36,7 @@ fn address_of(a: u8, b: u8, c: u8, d: u8) -> u32
     ((u32::from(a) * 256 + u32::from(b)) * 256 + u32::from(c)) * 256 + u32::from(d)
 }
 
-// A number below 256, and the bytes behind the sign that follows it.
+/// A number below 256, and the bytes behind the sign that follows it.
 fn octet(bytes: &[u8], sign: u8) -> Option<(u8, &[u8])>
     ensures { λ r. ⌜ leadOf r ≡ octet sign (now (bytes .entry)) ⌝ }
 {

@@ -1,4 +1,4 @@
-// Words as texts.
+//! Words as texts.
 ghost use mathlib.Core.Bool.{cond};
 ghost use mathlib.Core.Path.{_≡_};
 ghost use Rattle.policy_words.specs.Words.{isAscii};

@@ -1,4 +1,4 @@
-// Values that the tests are made of.
+//! Values that the tests are made of.
 use policy::Action;
 use policy::Clause;
 use policy::Condition;
@@ -11,10 +11,10 @@ use route::Path;
 use route::Route;
 use std::test::*;
 
-// The route server's own network.
+/// The route server's own network.
 pub const OWN: u32 = 5;
 
-// What must be there for the test to go on.
+/// What must be there for the test to go on.
 pub fn there<T>(value: Option<T>) -> Result<T, Fail> {
     match value {
         Some(value) => Ok(value),
@@ -22,7 +22,7 @@ pub fn there<T>(value: Option<T>) -> Result<T, Fail> {
     }
 }
 
-// A route of 10.0.0.0/8 with no communities.
+/// A route of 10.0.0.0/8 with no communities.
 pub fn route(path: &[u32], local_pref: u32, med: u32) -> Result<Route, Fail> {
     Ok(Route {
         prefix: there(Prefix::new(0x0a00_0000, 8))?,
@@ -32,7 +32,7 @@ pub fn route(path: &[u32], local_pref: u32, med: u32) -> Result<Route, Fail> {
     })
 }
 
-// A clause that asks nothing.
+/// A clause that asks nothing.
 pub fn always(action: Action) -> Clause {
     Clause {
         condition: Condition::new(),
@@ -40,7 +40,7 @@ pub fn always(action: Action) -> Clause {
     }
 }
 
-// A clause of one part.
+/// A clause of one part.
 pub fn when(negated: bool, test: Test, action: Action) -> Clause {
     let mut condition = Condition::new();
     condition.push(Part { negated, test });

@@ -1,4 +1,4 @@
-// What is exported of a selected route that comes from peer 1, with local preference 200 and MED 4,294,967,295.
+//! What is exported of a selected route that comes from peer 1, with local preference 200 and MED 4,294,967,295.
 use crate::examples::OWN;
 use crate::examples::always;
 use crate::examples::route;
@@ -37,7 +37,7 @@ fn nothing_to_offer() -> Result<(), Fail> {
     check(export(&policy, 0, &None).is_none())
 }
 
-// The export policies see the own network in front, MED 0 and the local preference that it was selected by.
+/// The export policies see the own network in front, MED 0 and the local preference that it was selected by.
 #[test]
 fn offers() -> Result<(), Fail> {
     let offer = there(offered(&[7, 9])?)?;
@@ -59,7 +59,7 @@ fn path_of_31_and_of_32() -> Result<(), Fail> {
     check(exported(&[7; 31], 0, &[longer, always(Action::Accept)])?.is_none())
 }
 
-// Nothing goes back to the peer from which it comes.
+/// Nothing goes back to the peer from which it comes.
 #[test]
 fn to_each_peer() -> Result<(), Fail> {
     check(exported(&[7], 0, &[always(Action::Accept)])?.is_some())?;
@@ -69,7 +69,7 @@ fn to_each_peer() -> Result<(), Fail> {
     check(exported(&[7], 0, &[always(Action::Reject)])?.is_none())
 }
 
-// An export policy that asks for the own network finds it in front.
+/// An export policy that asks for the own network finds it in front.
 #[test]
 fn own_network_is_asked_for() -> Result<(), Fail> {
     let own = Test::Passes { asn: OWN };
@@ -79,7 +79,7 @@ fn own_network_is_asked_for() -> Result<(), Fail> {
     check(exported(&[7], 0, &[when(false, longer, Action::Accept)])?.is_some())
 }
 
-// What it sets is sent, but for the local preference.
+/// What it sets is sent, but for the local preference.
 #[test]
 fn set_by_the_export_policy() -> Result<(), Fail> {
     let clauses = [

@@ -1,4 +1,4 @@
-// What is imported of a route with local preference 7 and MED 9.
+//! What is imported of a route with local preference 7 and MED 9.
 use crate::examples::OWN;
 use crate::examples::always;
 use crate::examples::route;
@@ -18,7 +18,7 @@ fn imported(path: &[u32], clauses: &[Clause]) -> Result<Option<Route>, Fail> {
     Ok(import(OWN, &policy, &route(path, 7, 9)?))
 }
 
-// The local preference of what a policy imports that does this first, and then accepts.
+/// The local preference of what a policy imports that does this first, and then accepts.
 fn preference(first: Action) -> Result<u32, Fail> {
     let route = there(imported(&[7, 11], &[always(first), always(Action::Accept)])?)?;
     check_eq(route.path.asns(), [7, 11])?;
@@ -67,7 +67,7 @@ fn is_imported_behind(asn: u32, times: u8) -> Result<bool, Fail> {
     Ok(imported(&[7, 9], &clauses)?.is_some())
 }
 
-// The own network is looked for on the path that the policy made.
+/// The own network is looked for on the path that the policy made.
 #[test]
 fn own_network_prepended() -> Result<(), Fail> {
     check(is_imported_behind(6, 8)?)?;

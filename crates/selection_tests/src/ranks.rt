@@ -1,11 +1,11 @@
-// Which of two candidates is better.
+//! Which of two candidates is better.
 use crate::examples::route;
 use crate::examples::there;
 use selection::Candidate;
 use selection::better_of;
 use std::test::*;
 
-// Local preference, length of the path, MED and peer of candidates, each better than all below it.
+/// Local preference, length of the path, MED and peer of candidates, each better than all below it.
 const BEST_TO_WORST: [(u32, usize, u32, u8); 13] = [
     (4_294_967_295, 32, 4_294_967_295, 255),
     (101, 32, 4_294_967_295, 9),
@@ -32,7 +32,7 @@ fn candidate(rank: (u32, usize, u32, u8)) -> Result<Candidate, Fail> {
     })
 }
 
-// Whatever the order in which both come, the one that stands above is the better.
+/// Whatever the order in which both come, the one that stands above is the better.
 #[test]
 fn each_is_better_than_those_below() -> Result<(), Fail> {
     for (i, first) in BEST_TO_WORST.iter().enumerate() {
@@ -47,7 +47,7 @@ fn each_is_better_than_those_below() -> Result<(), Fail> {
     Ok(())
 }
 
-// The first is better than nothing.
+/// The first is better than nothing.
 #[test]
 fn best_of_one() -> Result<(), Fail> {
     let only = candidate((0, 32, 4_294_967_295, 255))?;

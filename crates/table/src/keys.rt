@@ -1,4 +1,4 @@
-// Keys: making one, and looking for it.
+//! Keys: making one, and looking for it.
 ghost use mathlib.Core.Path.{_≡_};
 ghost use Prim.Native.Nat.{_<_, _^_};
 ghost use Rattle.prefix.specs.Meant.{meant};
@@ -8,17 +8,17 @@ ghost use Rattle.std.specs.Results.{Cases as ByOk};
 ghost use Rattle.table.specs.Table.{Absent, FirstBetween, Found, NoneBetween, Placed, Rises, keyOf};
 use prefix::Prefix;
 
-// How far the keys of one peer for two prefixes that follow each other lie apart: more than there are peers.
+/// How far the keys of one peer for two prefixes that follow each other lie apart: more than there are peers.
 pub const STRIDE: u64 = 256;
 
-// The key of what the peer announced of the prefix.
+/// The key of what the peer announced of the prefix.
 pub fn key_of(peer: u8, prefix: &Prefix) -> u64
     ensures { λ r. ⌜ r ≡ keyOf peer (number (meant (now (prefix .entry)))) ⌝ }
 {
     u64::from(prefix.number()) * STRIDE + u64::from(peer)
 }
 
-// The place of the first key that is not below `key`.
+/// The place of the first key that is not below `key`.
 fn place_of(keys: &[u64], key: u64) -> usize
     requires { ⌜ Rises (now keys) ⌝ }
     ensures { λ r. ⌜ Placed (now (keys .entry)) key r ⌝ }
@@ -36,7 +36,7 @@ fn place_of(keys: &[u64], key: u64) -> usize
     low
 }
 
-// The place of the key, or where it would stand.
+/// The place of the key, or where it would stand.
 pub fn find(keys: &[u64], key: u64) -> Result<usize, usize>
     requires { ⌜ Rises (now keys) ⌝ }
     ensures { λ r. ⌜ ByOk r (λ i. Found (now (keys .entry)) key i) (λ i. Absent (now (keys .entry)) key i) ⌝ }
@@ -49,7 +49,7 @@ pub fn find(keys: &[u64], key: u64) -> Result<usize, usize>
     }
 }
 
-// The place of the lowest key from `from` on and below `until`.
+/// The place of the lowest key from `from` on and below `until`.
 pub fn first_between(keys: &[u64], from: u64, until: u64) -> Option<usize>
     requires { ⌜ Rises (now keys) ⌝ }
     ensures { λ r. ⌜ BySome r (NoneBetween (now (keys .entry)) from until) (λ i. FirstBetween (now (keys .entry)) from until i) ⌝ }

@@ -1,4 +1,4 @@
-// What the methods lean on, cited by a call: the calls do nothing.
+//! What the methods lean on, cited by a call: the calls do nothing.
 ghost use Prim.Native.Nat.{_<_};
 ghost use Rattle.prefix.specs.Meant.{meant};
 ghost use Rattle.prefix.specs.Prefix.{number};

@@ -1,4 +1,4 @@
-// The Adj-RIB-In in memory: the routes of all peers in one row, in the order of their keys.
+//! The Adj-RIB-In in memory: the routes of all peers in one row, in the order of their keys.
 ghost use mathlib.Core.Path.{_≡_};
 ghost use Prim.Native.Nat.{_≤_};
 ghost use lib.ListN.{length};
@@ -14,7 +14,7 @@ mod vecs;
 pub use methods::TableRib;
 use route::Route;
 
-// What each peer last announced of each prefix. The memory for all routes is there from the start, so that keeping one can't fail.
+/// What each peer last announced of each prefix. The memory for all routes is there from the start, so that keeping one can't fail.
 #[derive(Drop)]
 pub struct Table {
     keys: Vec<u64>,

@@ -1,4 +1,4 @@
-// The table as an Adj-RIB-In.
+//! The table as an Adj-RIB-In.
 ghost use mathlib.Core.Path.{_≡_};
 ghost use Prim.Native.Nat.{ℕ};
 ghost use Rattle.prefix.specs.Meant.{meant};
@@ -29,13 +29,13 @@ use route::Route;
 use std::alloc::AllocError;
 use std::alloc::Global;
 
-// How many routes there is room for, and how many peers there can be.
+/// How many routes there is room for, and how many peers there can be.
 const CAPACITY: usize = 16_384;
 
 const MOST_PEERS: u8 = 64;
 
 impl Table {
-    // A table that holds nothing.
+    /// A table that holds nothing.
     pub fn new(heap: Global) -> Result<Table, AllocError>
         ensures { λ r. ⌜ made r (λ t. (peer prefix : ℕ) → receivedBy t peer prefix ≡ None) ⌝ }
     {
@@ -45,14 +45,14 @@ impl Table {
         Ok(Table { keys, routes })
     }
 
-    // The place of what the peer announced of the prefix, or where it would stand.
+    /// The place of what the peer announced of the prefix, or where it would stand.
     fn find(&self, peer: u8, prefix: &Prefix) -> Result<usize, usize>
         ensures { λ r. ⌜ ByOk r (λ i. Found (vec-items (now (self .entry) .keys)) (keyOf peer (number (meant (now (prefix .entry))))) i) (λ i. Absent (vec-items (now (self .entry) .keys)) (keyOf peer (number (meant (now (prefix .entry))))) i) ⌝ }
     {
         find(self.keys.as_slice(), key_of(peer, prefix))
     }
 
-    // The place of the lowest key from `from` on and below `until`.
+    /// The place of the lowest key from `from` on and below `until`.
     fn first_between(&self, from: u64, until: u64) -> Option<usize>
         ensures { λ r. ⌜ BySome r (NoneBetween (vec-items (now (self .entry) .keys)) from until) (λ i. FirstBetween (vec-items (now (self .entry) .keys)) from until i) ⌝ }
     {

@@ -1,4 +1,4 @@
-// Changes of the two rows in the memory that they have.
+//! Changes of the two rows in the memory that they have.
 ghost use mathlib.Core.Path.{_≡_};
 ghost use Prim.Native.Nat.{_≤_, _<_};
 ghost use lib.ListN.{length, set, take};
@@ -9,7 +9,7 @@ use crate::keys::STRIDE;
 use crate::laws::kept_law;
 use route::Route;
 
-// Puts the item in at `i`.
+/// Puts the item in at `i`.
 pub fn insert<T: Drop>(row: &mut Vec<T>, i: usize, item: T)
     requires { ⌜ i ≤ vec-len (now row) ⌝ ∗ ⌜ vec-len (now row) < vec-cap (now row) ⌝ }
     ensures items { λ _. ⌜ vec-items (now (row .exit)) ≡ inserted (vec-items (now (row .entry))) i item ⌝ }
@@ -18,7 +18,7 @@ pub fn insert<T: Drop>(row: &mut Vec<T>, i: usize, item: T)
     let _ = row.insert(i, item);
 }
 
-// Takes the item at `i` out.
+/// Takes the item at `i` out.
 pub fn cut<T: Drop>(row: &mut Vec<T>, i: usize)
     requires { ⌜ i < vec-len (now row) ⌝ }
     ensures items { λ _. ⌜ vec-items (now (row .exit)) ≡ removed (vec-items (now (row .entry))) i ⌝ }
@@ -27,7 +27,7 @@ pub fn cut<T: Drop>(row: &mut Vec<T>, i: usize)
     let _ = row.remove(i);
 }
 
-// Puts the route in the place of the one at `i`.
+/// Puts the route in the place of the one at `i`.
 pub fn replace(routes: &mut Vec<Route>, i: usize, route: &Route)
     requires { ⌜ i < vec-len (now routes) ⌝ }
     ensures items { λ _. ⌜ vec-items (now (routes .exit)) ≡ set (vec-items (now (routes .entry))) i (now (route .entry)) ⌝ }
@@ -36,7 +36,7 @@ pub fn replace(routes: &mut Vec<Route>, i: usize, route: &Route)
     routes[i] = *route;
 }
 
-// Leaves what is not of the peer, in its order.
+/// Leaves what is not of the peer, in its order.
 pub fn keep_others(keys: &mut Vec<u64>, routes: &mut Vec<Route>, peer: u8)
     requires { ⌜ length (vec-items (now routes)) ≡ length (vec-items (now keys)) ⌝ }
     ensures keys { λ _. ⌜ vec-items (now (keys .exit)) ≡ keptKeys peer (vec-items (now (keys .entry))) ⌝ }
@@ -49,7 +49,7 @@ pub fn keep_others(keys: &mut Vec<u64>, routes: &mut Vec<Route>, peer: u8)
     routes.truncate(others);
 }
 
-// Moves what is not of the peer to the front, in its order, and says how many that are.
+/// Moves what is not of the peer to the front, in its order, and says how many that are.
 fn move_to_front(keys: &mut [u64], routes: &mut [Route], peer: u8) -> usize
     requires { ⌜ length (now routes) ≡ length (now keys) ⌝ }
     ensures keys { λ r. ⌜ take r (now (keys .exit)) ≡ keptKeys peer (now (keys .entry)) ⌝ }

@@ -1,4 +1,4 @@
-// What each byte is.
+//! What each byte is.
 ghost use mathlib.Core.Path.{_≡_};
 ghost use Rattle.text_tokens.specs.Tokens.{classOf};
 use crate::Class;

@@ -1,4 +1,4 @@
-// What stands between tokens: blanks, ends of lines, comments.
+//! What stands between tokens: blanks, ends of lines, comments.
 ghost use mathlib.Core.Path.{_≡_};
 ghost use Prim.Native.Nat.{_+_, _<_};
 ghost use lib.ListN.{drop, getD, length};
@@ -9,7 +9,7 @@ use crate::Class;
 use crate::classes::class_of;
 use crate::laws::scan_law;
 
-// What the bytes since the last token have begun, with whether no token stands on the line yet.
+/// What the bytes since the last token have begun, with whether no token stands on the line yet.
 #[derive(Clone, Copy)]
 pub(crate) enum Gap {
     Blank { fresh: bool },
@@ -26,7 +26,7 @@ impl Gap {
         }
     }
 
-    // The gap with the byte at the offset; none where a token begins there.
+    /// The gap with the byte at the offset; none where a token begins there.
     fn with(self, text: &[u8], at: usize) -> Option<Gap>
         requires { ⌜ at < length (now text) ⌝ }
         ensures { λ r. ⌜ Cases r (Begun self (classOf (getD (now (text .entry)) at 0))) (λ gap. scan (modeOf self) at (drop at (now (text .entry))) ≡ scan (modeOf gap) (at + 1) (drop (at + 1) (now (text .entry)))) ⌝ }
@@ -48,7 +48,7 @@ impl Gap {
     }
 }
 
-// Where the next token begins, or the text ends, and whether no token stands on that line before it.
+/// Where the next token begins, or the text ends, and whether no token stands on that line before it.
 pub(crate) fn skip(text: &[u8], start: usize, fresh: bool) -> (usize, bool)
     ensures same { λ r. ⌜ scan (Between fresh) start (drop start (now (text .entry))) ≡ scan (Between (r .1)) (r .0) (drop (r .0) (now (text .entry))) ⌝ }
     ensures begins { λ r. ⌜ (r .0 < length (now (text .entry)) → Begins (classOf (getD (now (text .entry)) (r .0) 0))) ⌝ }

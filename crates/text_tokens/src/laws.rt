@@ -1,4 +1,4 @@
-// Facts about scanning that the code cites by a call: the calls do nothing.
+//! Facts about scanning that the code cites by a call: the calls do nothing.
 ghost use Rattle.text_tokens.specs.Spacing.{SpacingLaws};
 ghost use Rattle.text_tokens.specs.Steps.{PlaceSteps, ScanSteps, WordSteps};
 

@@ -1,4 +1,4 @@
-// Lines and columns.
+//! Lines and columns.
 ghost use mathlib.Core.Path.{_≡_};
 ghost use Prim.Native.Nat.{_≤_, _^_, _+_, _<_};
 ghost use lib.ListN.{length, take};
@@ -21,7 +21,7 @@ impl Place {
         }
     }
 
-    // The place behind the bytes.
+    /// The place behind the bytes.
     fn behind(bytes: &[u8]) -> Place
         ensures { λ r. ⌜ r ≡ placeFrom (record { line = 1; column = 1 }) (now (bytes .entry)) ⌝ }
     {
@@ -34,7 +34,7 @@ impl Place {
         place
     }
 
-    // The place behind a byte at this place.
+    /// The place behind a byte at this place.
     fn after(self, byte: u8) -> Place
         requires { ⌜ self .line + 1 < 2 ^ 64 ⌝ ∗ ⌜ self .column + 1 < 2 ^ 64 ⌝ }
         ensures { λ r. ⌜ r ≡ after self byte ⌝ }

@@ -1,4 +1,4 @@
-// Pulling one token at a time.
+//! Pulling one token at a time.
 ghost use mathlib.Core.Bool.{true, false};
 ghost use mathlib.Core.Path.{_≡_};
 ghost use Prim.Native.Nat.{_<_};
@@ -39,7 +39,7 @@ impl<'a> Reader<'a> {
     }
 }
 
-// The token that begins at the offset, and the offset behind it.
+/// The token that begins at the offset, and the offset behind it.
 fn kind_at<'a>(text: &'a [u8], at: usize, fresh: bool) -> (Kind<'a>, usize)
     requires { ⌜ (at < length (now text) → Begins (classOf (getD (now text) at 0))) ⌝ }
     ensures { λ r. ⌜ scan (Between fresh) at (drop at (now (text .entry))) ≡ pulledAs at fresh (r .0) (scan (Between false) (r .1) (drop (r .1) (now (text .entry)))) ⌝ }
@@ -55,7 +55,7 @@ fn kind_at<'a>(text: &'a [u8], at: usize, fresh: bool) -> (Kind<'a>, usize)
     (Kind::Word(&text[at..end]), end)
 }
 
-// Where the word that begins at the offset ends.
+/// Where the word that begins at the offset ends.
 fn word_end(text: &[u8], start: usize) -> usize
     requires { ⌜ start < length (now text) ⌝ ∗ ⌜ classOf (getD (now text) start 0) ≡ Class.Letter ⌝ }
     ensures { λ r. ⌜ Run (now (text .entry)) start r ⌝ }

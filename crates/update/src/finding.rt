@@ -1,4 +1,4 @@
-// Reading the attributes one by one.
+//! Reading the attributes one by one.
 ghost use mathlib.Core.Path.{_≡_};
 ghost use Rattle.attributes.specs.Meant.{meaningOf, peerOf, readingOf};
 ghost use Rattle.attributes.specs.Meaning.{lower};
@@ -16,7 +16,7 @@ use route::Path;
 use wire::byte_at;
 use wire::cut;
 
-// The types of the attributes so far.
+/// The types of the attributes so far.
 #[derive(Clone, Copy)]
 pub struct Seen {
     types: [bool; 256],
@@ -32,7 +32,7 @@ impl Seen {
         }
     }
 
-    // Notes a type, and says whether it was there before.
+    /// Notes a type, and says whether it was there before.
     fn add(&mut self, number: u8) -> bool
         ensures before { λ r. ⌜ r ≡ typesIn (now (self .entry) .types) number ⌝ }
         ensures after { λ _. ⌜ typesIn (now (self .exit) .types) ≡ withType number (typesIn (now (self .entry) .types)) ⌝ }
@@ -45,7 +45,7 @@ impl Seen {
     }
 }
 
-// What the attributes so far say: the lowest of their faults, and their values.
+/// What the attributes so far say: the lowest of their faults, and their values.
 #[derive(Clone, Copy)]
 pub struct Found {
     pub seen: Seen,
@@ -56,7 +56,7 @@ pub struct Found {
     pub communities: Communities,
 }
 
-// The one of the two faults that has the lower number.
+/// The one of the two faults that has the lower number.
 pub fn lower(found: Option<Fault>, fault: Fault) -> Option<Fault>
     ensures { λ r. ⌜ faultNumber r ≡ lower (faultNumber found) (code fault) ⌝ }
 {
@@ -90,7 +90,7 @@ impl Found {
         }
     }
 
-    // Takes in one more attribute.
+    /// Takes in one more attribute.
     fn add(&mut self, attribute: &[u8], peer: Peer)
         ensures { λ _. ⌜ foundOf (now (self .exit)) ≡ add (peerOf peer) (foundOf (now (self .entry))) (now (attribute .entry)) ⌝ }
     {
@@ -99,7 +99,7 @@ impl Found {
         self.take(read_once(again, attribute, peer));
     }
 
-    // Takes in what an attribute says, or notes its fault.
+    /// Takes in what an attribute says, or notes its fault.
     fn take(&mut self, reading: Result<Value, Fault>)
         ensures { λ _. ⌜ foundOf (now (self .exit)) ≡ takeReading (readingOf meaningOf reading) (foundOf (now (self .entry))) ⌝ }
     {
@@ -122,7 +122,7 @@ impl Found {
     }
 }
 
-// What the attributes say; one that runs over their part is a fault that ends the reading.
+/// What the attributes say; one that runs over their part is a fault that ends the reading.
 pub fn read_attributes(attributes: &[u8], peer: Peer) -> Result<Found, Fault>
     ensures { λ r. ⌜ readingOf foundOf r ≡ findAll (peerOf peer) nothingFound (now (attributes .entry)) ⌝ }
 {
@@ -139,7 +139,7 @@ pub fn read_attributes(attributes: &[u8], peer: Peer) -> Result<Found, Fault>
     Ok(found)
 }
 
-// An attribute whose type was there before is a fault.
+/// An attribute whose type was there before is a fault.
 fn read_once(again: bool, attribute: &[u8], peer: Peer) -> Result<Value, Fault>
     ensures { λ r. ⌜ readingOf meaningOf r ≡ readOnce again (peerOf peer) (now (attribute .entry)) ⌝ }
 {

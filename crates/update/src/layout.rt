@@ -1,4 +1,4 @@
-// The parts of an UPDATE.
+//! The parts of an UPDATE.
 ghost use mathlib.Core.Path.{_≡_};
 ghost use Prim.Native.Nat.{_<_};
 ghost use Rattle.update.specs.Sections.{announcedIn, attributesIn, attributesLength, sectionsEnd, withdrawnIn, withdrawnLength};
@@ -14,7 +14,7 @@ pub struct Sections<'a> {
     pub announced: &'a [u8],
 }
 
-// The parts of a message that is an UPDATE; what is not there is empty.
+/// The parts of a message that is an UPDATE; what is not there is empty.
 pub fn split_update(message: &[u8]) -> Sections<'_>
     ensures withdrawn { λ r. ⌜ now (r .withdrawn) ≡ withdrawnIn (now (message .entry)) ⌝ }
     ensures attributes { λ r. ⌜ now (r .attributes) ≡ attributesIn (now (message .entry)) ⌝ }
@@ -30,7 +30,7 @@ pub fn split_update(message: &[u8]) -> Sections<'_>
     }
 }
 
-// Where the announced prefixes begin, if the message is so long.
+/// Where the announced prefixes begin, if the message is so long.
 pub fn sections_end(message: &[u8]) -> usize
     ensures { λ r. ⌜ r ≡ sectionsEnd (now (message .entry)) ⌝ }
 {

@@ -1,4 +1,4 @@
-// UPDATE messages.
+//! UPDATE messages.
 mod finding;
 mod layout;
 mod reading;
@@ -10,7 +10,7 @@ pub use reading::read_update;
 use route::Communities;
 use route::Path;
 
-// What the announced prefixes have in common.
+/// What the announced prefixes have in common.
 #[derive(Clone, Copy)]
 pub struct Attributes {
     pub path: Path,
@@ -18,7 +18,7 @@ pub struct Attributes {
     pub communities: Communities,
 }
 
-// What an UPDATE says of its prefixes.
+/// What an UPDATE says of its prefixes.
 #[derive(Clone, Copy)]
 pub enum Content {
     // There is no route for the withdrawn prefixes, and one with these attributes for each announced prefix.

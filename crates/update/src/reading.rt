@@ -1,4 +1,4 @@
-// Reading an UPDATE.
+//! Reading an UPDATE.
 ghost use mathlib.Core.Path.{_≡_};
 ghost use Rattle.attributes.specs.Meant.{peerOf, readingOf};
 ghost use Rattle.update.specs.Finding.{announced as announcedBy, bothChecked, contentFrom};
@@ -18,7 +18,7 @@ use fault::Fault;
 use wire::Check;
 use wire::check_prefixes;
 
-// What an UPDATE says of its prefixes; what runs over its length is a fault that ends the reading.
+/// What an UPDATE says of its prefixes; what runs over its length is a fault that ends the reading.
 pub fn read_update(message: &[u8], peer: Peer) -> Result<Content, Fault>
     ensures { λ r. ⌜ readingOf contentMeant r ≡ readUpdate (peerOf peer) (now (message .entry)) ⌝ }
 {
@@ -36,7 +36,7 @@ pub fn read_update(message: &[u8], peer: Peer) -> Result<Content, Fault>
     }
 }
 
-// Whether something in the parts is no prefix; nothing where they run over.
+/// Whether something in the parts is no prefix; nothing where they run over.
 fn invalid_prefixes(withdrawn: &[u8], announced: &[u8]) -> Option<bool>
     ensures { λ r. ⌜ r ≡ bothChecked (checked (now (withdrawn .entry))) (checked (now (announced .entry))) ⌝ }
 {
@@ -47,7 +47,7 @@ fn invalid_prefixes(withdrawn: &[u8], announced: &[u8]) -> Option<bool>
     }
 }
 
-// What is said of the prefixes, from what was found among the attributes.
+/// What is said of the prefixes, from what was found among the attributes.
 fn content(found: Found, invalid: bool, announces: bool) -> Content
     ensures { λ r. ⌜ contentMeant r ≡ contentFrom (foundOf found) invalid announces ⌝ }
 {
@@ -67,7 +67,7 @@ fn content(found: Found, invalid: bool, announces: bool) -> Content
     }
 }
 
-// The attributes of what is announced, if none is missing.
+/// The attributes of what is announced, if none is missing.
 fn announced(found: Found) -> Content
     ensures { λ r. ⌜ contentMeant r ≡ announcedBy (foundOf found) (foundOf found .path) ⌝ }
 {

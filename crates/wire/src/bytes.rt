@@ -1,4 +1,4 @@
-// Reading bytes.
+//! Reading bytes.
 ghost use mathlib.Core.Path.{_≡_};
 ghost use Prim.Native.Nat.{_≤_, _<_};
 ghost use lib.ListN.{drop, getD, length, take};
@@ -6,7 +6,7 @@ ghost use Rattle.std.specs.Options.{Cases};
 ghost use Rattle.wire.specs.Bytes.{u16Of, u32Of};
 ghost use Rattle.wire.specs.Steps.{EdgeSteps};
 
-// The byte at a place; 0 where there is none.
+/// The byte at a place; 0 where there is none.
 pub fn byte_at(bytes: &[u8], place: usize) -> u8
     ensures { λ r. ⌜ r ≡ getD (now (bytes .entry)) place 0 ⌝ }
 {
@@ -14,7 +14,7 @@ pub fn byte_at(bytes: &[u8], place: usize) -> u8
     if place < bytes.len() { bytes[place] } else { 0 }
 }
 
-// What is behind the first so many bytes.
+/// What is behind the first so many bytes.
 pub fn skip(bytes: &[u8], count: usize) -> &[u8]
     ensures { λ r. ⌜ now r ≡ drop count (now (bytes .entry)) ⌝ }
 {
@@ -26,7 +26,7 @@ pub fn skip(bytes: &[u8], count: usize) -> &[u8]
     }
 }
 
-// The first so many bytes, or all where there are fewer.
+/// The first so many bytes, or all where there are fewer.
 pub fn first(bytes: &[u8], count: usize) -> &[u8]
     ensures { λ r. ⌜ now r ≡ take count (now (bytes .entry)) ⌝ }
 {
@@ -38,7 +38,7 @@ pub fn first(bytes: &[u8], count: usize) -> &[u8]
     }
 }
 
-// The first so many bytes, and those behind; none where there are fewer.
+/// The first so many bytes, and those behind; none where there are fewer.
 pub fn cut(bytes: &[u8], size: usize) -> Option<(&[u8], &[u8])>
     ensures { λ r. ⌜ Cases r (length (now (bytes .entry)) < size) (λ p. (size ≤ length (now (bytes .entry))) × (now (p .0) ≡ take size (now (bytes .entry))) × (now (p .1) ≡ drop size (now (bytes .entry)))) ⌝ }
 {
@@ -48,14 +48,14 @@ pub fn cut(bytes: &[u8], size: usize) -> Option<(&[u8], &[u8])>
     Some((first(bytes, size), skip(bytes, size)))
 }
 
-// The number that the first 2 bytes make.
+/// The number that the first 2 bytes make.
 pub fn u16_of(bytes: &[u8]) -> u16
     ensures { λ r. ⌜ r ≡ u16Of (now (bytes .entry)) ⌝ }
 {
     u16::from(byte_at(bytes, 0)) * 256 + u16::from(byte_at(bytes, 1))
 }
 
-// The number that the first 4 bytes make.
+/// The number that the first 4 bytes make.
 pub fn u32_of(bytes: &[u8]) -> u32
     ensures { λ r. ⌜ r ≡ u32Of (now (bytes .entry)) ⌝ }
 {

@@ -1,4 +1,4 @@
-// Numbers, pieces and prefixes in bytes that are lent.
+//! Numbers, pieces and prefixes in bytes that are lent.
 mod bytes;
 mod nlri;
 

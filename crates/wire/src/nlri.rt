@@ -1,4 +1,4 @@
-// Prefixes in a part of a message.
+//! Prefixes in a part of a message.
 ghost use mathlib.Core.Bool.{true, false};
 ghost use mathlib.Core.List.{[], _∷_};
 ghost use mathlib.Core.Path.{_≡_};
@@ -14,7 +14,7 @@ use crate::bytes::skip;
 use crate::bytes::u32_of;
 use prefix::Prefix;
 
-// What a part of a message holds that should hold prefixes.
+/// What a part of a message holds that should hold prefixes.
 #[derive(Clone, Copy)]
 pub enum Check {
     // Its last prefix is longer than what is left for it.
@@ -24,7 +24,7 @@ pub enum Check {
     Valid,
 }
 
-// Whether the part holds prefixes and nothing else.
+/// Whether the part holds prefixes and nothing else.
 pub fn check_prefixes(part: &[u8]) -> Check
     ensures { λ r. ⌜ r ≡ checked (now (part .entry)) ⌝ }
 {
@@ -45,7 +45,7 @@ pub fn check_prefixes(part: &[u8]) -> Check
     }
 }
 
-// What is left of a part of a message, prefix by prefix.
+/// What is left of a part of a message, prefix by prefix.
 #[derive(Clone, Copy)]
 pub struct Prefixes<'a> {
     rest: &'a [u8],
@@ -58,7 +58,7 @@ impl<'a> Prefixes<'a> {
         Prefixes { rest: part }
     }
 
-    // The next prefix; what is no prefix is passed over.
+    /// The next prefix; what is no prefix is passed over.
     pub fn next(&mut self) -> Option<Prefix>
         ensures { λ r. ⌜ Cases r ((namedOf (now (self .entry)) ≡ []) × (namedOf (now (self .exit)) ≡ [])) (λ p. namedOf (now (self .entry)) ≡ meant p ∷ namedOf (now (self .exit))) ⌝ }
     {
@@ -78,21 +78,21 @@ impl<'a> Prefixes<'a> {
     }
 }
 
-// How many bytes the first prefix takes.
+/// How many bytes the first prefix takes.
 fn prefix_size(part: &[u8]) -> usize
     ensures { λ r. ⌜ r ≡ prefixSize (now (part .entry)) ⌝ }
 {
     1 + (usize::from(byte_at(part, 0)) + 7) / 8
 }
 
-// Whether the piece is a prefix.
+/// Whether the piece is a prefix.
 fn holds_prefix(piece: &[u8]) -> bool
     ensures { λ r. ⌜ r ≡ holdsPrefix (now (piece .entry)) ⌝ }
 {
     prefix_in(piece).is_some()
 }
 
-// The prefix that the piece is, if it is one.
+/// The prefix that the piece is, if it is one.
 fn prefix_in(piece: &[u8]) -> Option<Prefix>
     ensures { λ r. ⌜ Cases r (holdsPrefix (now (piece .entry)) ≡ false) (λ p. (holdsPrefix (now (piece .entry)) ≡ true) × (meant p ≡ prefixOf (now (piece .entry)))) ⌝ }
 {
