@@ -1,0 +1,5 @@
+pub mod Lowest
+pub mod Backs
+pub mod Trips
+pub mod Updates
+pub mod Naming

@@ -1,0 +1,3 @@
+pub mod HasFault
+pub mod RoundTrip
+pub mod Names
