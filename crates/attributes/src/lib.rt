@@ -1,4 +1,6 @@
 //! The path attributes of an UPDATE.
+#![tactic(auto)]
+
 mod as_paths;
 mod kinds;
 mod numbers;

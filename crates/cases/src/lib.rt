@@ -1,4 +1,6 @@
 //! What the route server sends in worked cases.
+#![tactic(auto)]
+
 ghost use Rattle.cases.specs.Cases.{WorkedCases};
 ghost use Rattle.cases.specs.Few.{OfFew};
 

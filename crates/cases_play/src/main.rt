@@ -1,4 +1,6 @@
 //! Plays the worked cases through the route server, each from the start, and prints what each peer is told.
+#![tactic(auto)]
+
 use anyhow::anyhow;
 use plays::{Case, play};
 use policies::Texts;

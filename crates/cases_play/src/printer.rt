@@ -67,12 +67,11 @@ impl<'a> Printer<'a> {
                 "{case}: peer {peer} is told that there is none of {a}.{b}.{c}.{d}/{length}"
             );
         };
-        print!(
-            rt,
+        print!(rt;
             "{case}: peer {peer} is told {a}.{b}.{c}.{d}/{length} by"
         )?;
         for asn in route.path.asns() {
-            print!(rt, " {asn}")?;
+            print!(rt; " {asn}")?;
         }
         println!(rt; "")
     }

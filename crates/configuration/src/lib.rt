@@ -1,4 +1,6 @@
 //! The policies in force, and reading a text in their place.
+#![tactic(auto)]
+
 use policy_clauses::Awaited;
 use policy_tables::Policies;
 use text_tokens::Place;

@@ -1,4 +1,6 @@
 //! The words of examples: what the tables of the test programs are written in, and how routes are printed.
+#![tactic(auto)]
+
 mod clauses;
 mod printing;
 mod words;

@@ -7,7 +7,7 @@ pub fn show_route(rt: &HostRuntime, route: &Route) -> io::Result<()> {
     show_numbers(rt, route.path.asns())?;
     let local_pref = route.metrics.local_pref;
     let med = route.metrics.med;
-    print!(rt, " ({local_pref}, {med})")?;
+    print!(rt; " ({local_pref}, {med})")?;
     show_numbers(rt, route.communities.as_slice())
 }
 
@@ -21,9 +21,9 @@ pub fn show_numbers(rt: &HostRuntime, numbers: &[u32]) -> io::Result<()> {
             continue;
         }
         if times == 1 {
-            print!(rt, " {number}")?;
+            print!(rt; " {number}")?;
         } else {
-            print!(rt, " {number}*{times}")?;
+            print!(rt; " {number}*{times}")?;
         }
         times = 0;
     }

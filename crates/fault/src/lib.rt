@@ -1,4 +1,6 @@
 //! What can be wrong with what a route server reads, and the number of each fault.
+#![tactic(auto)]
+
 ghost use Rattle.std.specs.Prelude.{◌≡◌};
 ghost use Rattle.fault.specs.Fault.{code};
 

@@ -20,6 +20,8 @@
 //! Peers have the numbers from 0 in the first settings with at most 64. Of `announce` the parts behind the prefixes may
 //! be left out; without `by` there is no path attribute. `flip` turns all bits of a byte of the next message, counted
 //! from 0, and `cut` keeps only so many of its bytes. Lines from `text` to `end` are a policy text.
+#![tactic(auto)]
+
 mod damage;
 mod framing;
 mod parts;

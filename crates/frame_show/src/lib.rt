@@ -12,6 +12,8 @@
 //! Event frames are shown too, with `from` in place of `to`, and else in the words of a script. A message that cannot be
 //! read is shown in bytes, `to 1: bytes ff ff`, and so is all that stands behind the last frame that can be read. The next
 //! hop and the origin of an UPDATE are not shown.
+#![tactic(auto)]
+
 mod frame;
 mod message;
 mod shown;

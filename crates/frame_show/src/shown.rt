@@ -2,12 +2,12 @@
 use crate::frame::{Frame, read_frame};
 use crate::message::{Message, read_message};
 use crate::update::{Update, next_prefix};
-use std::fmt;
+use std::alloc::AllocError;
 use std::fmt::Write;
 use wire::{cut, skip, u32_of};
 
 /// Shows all frames, one to a line.
-pub fn show(out: &mut String, bytes: &[u8]) -> fmt::Result {
+pub fn show(out: &mut String, bytes: &[u8]) -> Result<(), AllocError> {
     let mut rest = bytes;
     for _ in 0..bytes.len() {
         let Some((frame, after)) = read_frame(rest) else {
@@ -24,7 +24,7 @@ pub fn show(out: &mut String, bytes: &[u8]) -> fmt::Result {
     writeln!(out, "")
 }
 
-fn put_frame(out: &mut String, frame: Frame<'_>) -> fmt::Result {
+fn put_frame(out: &mut String, frame: Frame<'_>) -> Result<(), AllocError> {
     match frame {
         Frame::From { peer, message } => {
             write!(out, "from {peer}: ")?;
@@ -44,7 +44,7 @@ fn put_frame(out: &mut String, frame: Frame<'_>) -> fmt::Result {
 }
 
 /// A policy text, from `text` to `end`; in bytes where it is no text.
-fn put_text(out: &mut String, text: &[u8]) -> fmt::Result {
+fn put_text(out: &mut String, text: &[u8]) -> Result<(), AllocError> {
     let Ok(words) = std::str::from_utf8(text) else {
         write!(out, "text ")?;
         return put_bytes(out, text);
@@ -56,7 +56,7 @@ fn put_text(out: &mut String, text: &[u8]) -> fmt::Result {
     write!(out, "end")
 }
 
-fn put_settings(out: &mut String, own: &[u8], peers: &[u8]) -> fmt::Result {
+fn put_settings(out: &mut String, own: &[u8], peers: &[u8]) -> Result<(), AllocError> {
     let asn = u32_of(own);
     write!(out, "settings {asn} ")?;
     put_address(out, u32_of(skip(own, 4)))?;
@@ -73,7 +73,7 @@ fn put_settings(out: &mut String, own: &[u8], peers: &[u8]) -> fmt::Result {
     Ok(())
 }
 
-fn put_message(out: &mut String, bytes: &[u8]) -> fmt::Result {
+fn put_message(out: &mut String, bytes: &[u8]) -> Result<(), AllocError> {
     match read_message(bytes) {
         Some(
             Message::Open {
@@ -94,7 +94,7 @@ fn put_message(out: &mut String, bytes: &[u8]) -> fmt::Result {
     }
 }
 
-fn put_update(out: &mut String, update: Update<'_>) -> fmt::Result {
+fn put_update(out: &mut String, update: Update<'_>) -> Result<(), AllocError> {
     write!(out, "UPDATE")?;
     put_prefixes(out, update.announced)?;
     if let Some(path) = update.path {
@@ -115,7 +115,7 @@ fn put_update(out: &mut String, update: Update<'_>) -> fmt::Result {
     Ok(())
 }
 
-fn put_prefixes(out: &mut String, part: &[u8]) -> fmt::Result {
+fn put_prefixes(out: &mut String, part: &[u8]) -> Result<(), AllocError> {
     let mut rest = part;
     for _ in 0..part.len() {
         let Some((prefix, after)) = next_prefix(rest) else {
@@ -131,7 +131,7 @@ fn put_prefixes(out: &mut String, part: &[u8]) -> fmt::Result {
 }
 
 /// Numbers of 4 bytes each.
-fn put_numbers(out: &mut String, bytes: &[u8]) -> fmt::Result {
+fn put_numbers(out: &mut String, bytes: &[u8]) -> Result<(), AllocError> {
     let mut rest = bytes;
     for _ in 0..bytes.len() {
         let Some((number, after)) = cut(rest, 4) else {
@@ -144,12 +144,12 @@ fn put_numbers(out: &mut String, bytes: &[u8]) -> fmt::Result {
     Ok(())
 }
 
-fn put_address(out: &mut String, address: u32) -> fmt::Result {
+fn put_address(out: &mut String, address: u32) -> Result<(), AllocError> {
     let [a, b, c, d] = address.to_be_bytes();
     write!(out, "{a}.{b}.{c}.{d}")
 }
 
-fn put_bytes(out: &mut String, bytes: &[u8]) -> fmt::Result {
+fn put_bytes(out: &mut String, bytes: &[u8]) -> Result<(), AllocError> {
     write!(out, "bytes")?;
     for byte in bytes {
         let byte = *byte;

@@ -1,3 +1,5 @@
 //! Tests of reading frames, by examples.
+#![tactic(auto)]
+
 #[cfg(test)]
 mod tests;

@@ -1,5 +1,7 @@
 //! Turns a script of events, in words on standard input, into event frames. With the argument `show` it turns frames into
 //! words, those that the server writes and event frames.
+#![tactic(auto)]
+
 use anyhow::anyhow;
 use frame_script::frames;
 use frame_show::show;

@@ -1,4 +1,6 @@
 //! Turns scripts, each behind a `%`, into frames and these into words, or says which line is refused, and why.
+#![tactic(auto)]
+
 use frame_script::frames;
 use frame_show::show;
 use std::io;

@@ -1,5 +1,7 @@
 //! The route server: reads framed events from standard input, until it ends or a frame cannot be read. It takes settings
 //! and relays nothing yet. A fault is told on standard error, in a line with its number.
+#![tactic(auto)]
+
 use frame::event::{Defect, Refusal};
 use intake::buffer::Buffer;
 use intake::turns::{Intake, Step};

@@ -1,5 +1,7 @@
 //! The route server: reads event frames from standard input, until it ends or a frame cannot be read, and writes frames to
 //! peers to standard output. What is refused is told on standard error, a line each, with its number.
+#![tactic(auto)]
+
 use configuration::TextRefusal;
 use frame::event::Event;
 use frame::settings::Settings;

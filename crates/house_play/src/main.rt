@@ -2,6 +2,8 @@
 //!
 //! Each script stands behind a `%` and its name, and is played behind what stands before the first `%`. One behind a `$` is
 //! played where there is no room for one prefix more. Ticks are counted together, up to one at which something goes out.
+#![tactic(auto)]
+
 use anyhow::anyhow;
 use frame_script::frames;
 use hall::Hall;

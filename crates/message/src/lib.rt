@@ -1,4 +1,6 @@
 //! Reading BGP messages.
+#![tactic(auto)]
+
 mod header;
 mod opens;
 mod reading;

@@ -1,3 +1,4 @@
+#![tactic(auto)]
 // What is true of every message that is read or written.
 ghost use Rattle.message_laws.specs.HasFault.{LowestFault};
 ghost use Rattle.message_laws.specs.Names.{Names};

@@ -1,4 +1,6 @@
 //! Reads messages from a table and prints what each says, or its fault. A row is a name, the state and the peer, and the message in hexadecimal digits; `00*7` stands for 7 such bytes. Then prints the messages that are written.
+#![tactic(auto)]
+
 ghost use Rattle.std.specs.Prelude.{◌<◌};
 
 use fault::Fault;
@@ -50,7 +52,7 @@ fn show_prefixes(rt: &HostRuntime, sign: &str, part: &[u8]) -> io::Result<()> {
         };
         let [a, b, c, d] = prefix.address().to_be_bytes();
         let length = prefix.length();
-        print!(rt, " {sign}{a}.{b}.{c}.{d}/{length}")?;
+        print!(rt; " {sign}{a}.{b}.{c}.{d}/{length}")?;
     }
     Ok(())
 }
@@ -58,26 +60,26 @@ fn show_prefixes(rt: &HostRuntime, sign: &str, part: &[u8]) -> io::Result<()> {
 fn show_numbers(rt: &HostRuntime, numbers: &[u32]) -> io::Result<()> {
     for number in numbers {
         let number = *number;
-        print!(rt, " {number}")?;
+        print!(rt; " {number}")?;
     }
     Ok(())
 }
 
 fn show_attributes(rt: &HostRuntime, attributes: Attributes) -> io::Result<()> {
-    print!(rt, ": path")?;
+    print!(rt; ": path")?;
     show_numbers(rt, attributes.path.asns())?;
     let med = attributes.med;
-    print!(rt, ", MED {med}, communities")?;
+    print!(rt; ", MED {med}, communities")?;
     show_numbers(rt, attributes.communities.as_slice())
 }
 
 fn show_content(rt: &HostRuntime, content: Content) -> io::Result<()> {
     match content {
         Content::Announces(attributes) => show_attributes(rt, attributes),
-        Content::Withdraws => print!(rt, ": nothing announced"),
+        Content::Withdraws => print!(rt; ": nothing announced"),
         Content::Faulty(fault) => {
             let code = fault.code();
-            print!(rt, ": fault {code}")
+            print!(rt; ": fault {code}")
         }
     }
 }
@@ -87,17 +89,17 @@ fn show_message(rt: &HostRuntime, message: Message, bytes: &[u8]) -> io::Result<
         Message::Open(opened) => {
             let hold_time = opened.hold_time;
             let identifier = opened.identifier;
-            print!(rt, " OPEN, hold time {hold_time}, identifier {identifier}")
+            print!(rt; " OPEN, hold time {hold_time}, identifier {identifier}")
         }
         Message::Update(content) => {
-            print!(rt, " UPDATE")?;
+            print!(rt; " UPDATE")?;
             let parts = split_update(bytes);
             show_prefixes(rt, "-", parts.withdrawn)?;
             show_prefixes(rt, "+", parts.announced)?;
             show_content(rt, content)
         }
-        Message::Notification(code, subcode) => print!(rt, " NOTIFICATION {code} {subcode}"),
-        Message::Keepalive => print!(rt, " KEEPALIVE"),
+        Message::Notification(code, subcode) => print!(rt; " NOTIFICATION {code} {subcode}"),
+        Message::Keepalive => print!(rt; " KEEPALIVE"),
     }
 }
 
@@ -123,7 +125,7 @@ fn show(rt: &HostRuntime, who: &str, bytes: &[u8]) -> io::Result<()> {
         Ok(message) => show_message(rt, message, bytes),
         Err(fault) => {
             let code = fault.code();
-            print!(rt, " fault {code}")
+            print!(rt; " fault {code}")
         }
     }
 }
@@ -140,7 +142,7 @@ fn show_row(rt: &HostRuntime, line: &str) -> io::Result<()> {
     for word in words {
         push_word(&mut bytes, word)?;
     }
-    print!(rt, "{name}:")?;
+    print!(rt; "{name}:")?;
     show(rt, who, bytes.as_slice())?;
     println!(rt; "")
 }
@@ -152,22 +154,22 @@ fn show_written(
     buffer: &[u8],
     told: Option<usize>,
 ) -> io::Result<()> {
-    print!(rt, "{name}: ")?;
+    print!(rt; "{name}: ")?;
     match told {
         Some(count) => {
             for (i, byte) in buffer.iter().enumerate() {
                 if i <= count {
                     let byte = *byte;
-                    print!(rt, "{byte:02x}")?;
+                    print!(rt; "{byte:02x}")?;
                 }
             }
         }
         None => {
             for byte in buffer {
                 let byte = *byte;
-                print!(rt, "{byte:02x}")?;
+                print!(rt; "{byte:02x}")?;
             }
-            print!(rt, " refused")?;
+            print!(rt; " refused")?;
         }
     }
     println!(rt; "")

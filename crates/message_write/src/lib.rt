@@ -1,4 +1,6 @@
 //! Writing BGP messages.
+#![tactic(auto)]
+
 mod parts;
 mod putting;
 mod writing;

@@ -1,4 +1,6 @@
 //! Frames to peers: updates become bytes.
+#![tactic(auto)]
+
 ghost use Rattle.std.specs.Prelude.{ℕ, List, []};
 
 use peers::PeerSet;

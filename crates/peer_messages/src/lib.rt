@@ -1,4 +1,6 @@
 //! Messages as peers send them, in bytes.
+#![tactic(auto)]
+
 mod basics;
 mod updates;
 

@@ -1,4 +1,6 @@
 //! Sets of peers, of which there are at most 64.
+#![tactic(auto)]
+
 mod methods;
 
 #[derive(Clone, Copy)]

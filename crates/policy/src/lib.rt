@@ -1,4 +1,6 @@
 //! Policies: which routes are accepted, and what is changed on them.
+#![tactic(auto)]
+
 ghost use Rattle.std.specs.Prelude.{◌≤◌, take};
 ghost use Rattle.policy.specs.Starts.{Starts};
 

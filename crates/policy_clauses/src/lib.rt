@@ -1,4 +1,6 @@
 //! The clauses of policy texts: conditions, actions, and what is awaited where one cannot be read.
+#![tactic(auto)]
+
 ghost use Rattle.std.specs.Prelude.{◌≤◌};
 
 mod actions;

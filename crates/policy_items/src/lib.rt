@@ -1,4 +1,6 @@
 //! The lists and the rows of clauses of policy texts.
+#![tactic(auto)]
+
 ghost use Rattle.std.specs.Prelude.{◌≤◌, vec_capacity};
 
 use policy::Clause;

@@ -63,21 +63,21 @@ impl Bench {
                 let (address, length) = dotted(next(words)?)?;
                 match Prefix::new(address, length) {
                     Some(prefix) => self.route.prefix = prefix,
-                    None => print!(rt, " none")?,
+                    None => print!(rt; " none")?,
                 }
             }
             "path" => {
                 let asns = numbers(rt.alloc(), words)?;
                 match Path::new(asns.as_slice()) {
                     Some(path) => self.route.path = path,
-                    None => print!(rt, " none")?,
+                    None => print!(rt; " none")?,
                 }
             }
             "communities" => {
                 let values = numbers(rt.alloc(), words)?;
                 match Communities::of(values.as_slice()) {
                     Some(communities) => self.route.communities = communities,
-                    None => print!(rt, " none")?,
+                    None => print!(rt; " none")?,
                 }
             }
             "bare" => self.route.communities = Communities::none(),
@@ -103,7 +103,7 @@ impl Bench {
             "remove" => self.route.communities.remove(number(words)?),
             "length" => {
                 let length = self.route.path.len();
-                print!(rt, " {length}")?;
+                print!(rt; " {length}")?;
             }
             "number" => show_number(rt, self.route.prefix)?,
             "show" => self.show(rt)?,
@@ -142,9 +142,9 @@ impl Bench {
     }
 
     fn show(&self, rt: &HostRuntime) -> io::Result<()> {
-        print!(rt, " <")?;
+        print!(rt; " <")?;
         show_route(rt, &self.route)?;
-        print!(rt, " >")
+        print!(rt; " >")
     }
 }
 
@@ -163,8 +163,8 @@ fn given() -> Option<Route> {
 
 pub fn say(rt: &HostRuntime, is_so: bool) -> io::Result<()> {
     if is_so {
-        print!(rt, " yes")
+        print!(rt; " yes")
     } else {
-        print!(rt, " no")
+        print!(rt; " no")
     }
 }

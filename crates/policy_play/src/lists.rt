@@ -18,7 +18,7 @@ impl Bench {
             "sixteens" => self.put_sixteens(rt, byte(words)?)?,
             "size" => {
                 let size = self.list.as_slice().len();
-                print!(rt, " {size}")?;
+                print!(rt; " {size}")?;
             }
             "keep" => self.keep()?,
             "usual" => self.put_usual(rt)?,

@@ -6,6 +6,8 @@
 //! - `list` adds prefixes to a list, `sixteens` adds 10.0.0.0/16, 10.1.0.0/16 and so on, `size` is how many it has, and `keep` begins the next. `usual` are three lists: 10.0.0.0/8 and 192.168.0.0/16; 192.168.0.0/16 and 10.1.0.0/16; nothing.
 //! - `fits` asks a test, by five marks: as a test, as a part and as a condition, and as a negated part and condition. `push` adds a part to a condition so many times, and prints how many were taken and whether it holds.
 //! - `act` does one action. A clause is `if .. then ..`, or `then ..`; `evaluate` goes through the clauses.
+#![tactic(auto)]
+
 use bench::Bench;
 
 mod bench;
@@ -31,7 +33,7 @@ fn show_row(rt: &HostRuntime, row: &str) -> anyhow::Result<()> {
         return Ok(());
     };
     let mut bench = Bench::new(rt.alloc())?;
-    print!(rt, "{name}:")?;
+    print!(rt; "{name}:")?;
     for task in tasks.split(';') {
         bench.work(rt, task)?;
     }

@@ -18,17 +18,17 @@ impl Bench {
         match word {
             "fits" => {
                 let part = read_part(words)?;
-                print!(rt, " ")?;
+                print!(rt; " ")?;
                 show_fits(rt, part.test, self.lists.as_slice(), &self.route)?;
             }
             "push" => self.push_parts(rt, byte(words)?, read_part(words)?)?,
             "among" => {
                 let asn = number(words)?;
                 let row = numbers(rt.alloc(), words)?;
-                print!(rt, " ")?;
+                print!(rt; " ")?;
                 mark(rt, is_among(row.as_slice(), asn))?;
             }
-            "count" => print!(rt, " {COUNT}")?,
+            "count" => print!(rt; " {COUNT}")?,
             "numbered" => show_prefix(rt, Prefix::from_number(number(words)?))?,
             _ => return Ok(false),
         }
@@ -43,7 +43,7 @@ impl Bench {
                 taken = taken.saturating_add(1);
             }
         }
-        print!(rt, " {taken} ")?;
+        print!(rt; " {taken} ")?;
         mark(rt, self.condition.holds(self.lists.as_slice(), &self.route))
     }
 }
@@ -63,22 +63,22 @@ fn show_fits(rt: &HostRuntime, test: Test, lists: &[PrefixList], route: &Route) 
 
 fn mark(rt: &HostRuntime, is_so: bool) -> io::Result<()> {
     if is_so {
-        print!(rt, "+")
+        print!(rt; "+")
     } else {
-        print!(rt, "-")
+        print!(rt; "-")
     }
 }
 
 pub fn show_step(rt: &HostRuntime, step: Step) -> io::Result<()> {
     match step {
         Step::Decided(verdict) => show_verdict(rt, verdict),
-        Step::GoesOn => print!(rt, " goes on"),
+        Step::GoesOn => print!(rt; " goes on"),
     }
 }
 
 pub fn show_verdict(rt: &HostRuntime, verdict: Verdict) -> io::Result<()> {
     match verdict {
-        Verdict::Accepted => print!(rt, " accepted"),
-        Verdict::Rejected => print!(rt, " rejected"),
+        Verdict::Accepted => print!(rt; " accepted"),
+        Verdict::Rejected => print!(rt; " rejected"),
     }
 }

@@ -7,10 +7,10 @@ ghost use Rattle.policy_print.specs.Steps.{Puts};
 use crate::laws::{clause_law, join_law, part_law};
 use policy::{Action, Clause, Part, Test};
 use rows::{ends, unrolls};
-use std::fmt;
+use std::alloc::AllocError;
 
 /// Appends the clauses, one to a line.
-pub(crate) fn put_clauses(text: &mut String, clauses: &[Clause]) -> fmt::Result
+pub(crate) fn put_clauses(text: &mut String, clauses: &[Clause]) -> Result<(), AllocError>
     ensures { Puts (string_bytes text.old) (clauses_text (map written_of clauses.now)) (string_bytes text.new) result }
 {
     let _ = (clause_law(), join_law(), ends(clauses));
@@ -21,7 +21,7 @@ pub(crate) fn put_clauses(text: &mut String, clauses: &[Clause]) -> fmt::Result
     Ok(())
 }
 
-fn put_clause(text: &mut String, clause: &Clause) -> fmt::Result
+fn put_clause(text: &mut String, clause: &Clause) -> Result<(), AllocError>
     ensures { Puts (string_bytes text.old) (clause_text (written_of clause.now)) (string_bytes text.new) result }
 {
     let _ = join_law();
@@ -33,7 +33,7 @@ fn put_clause(text: &mut String, clause: &Clause) -> fmt::Result
 }
 
 /// Appends the parts of a condition, with `and` between them.
-fn put_parts(text: &mut String, parts: &[Part]) -> fmt::Result
+fn put_parts(text: &mut String, parts: &[Part]) -> Result<(), AllocError>
     ensures { Puts (string_bytes text.old) (parts_text [] parts.now) (string_bytes text.new) result }
 {
     let _ = (part_law(), join_law(), ends(parts));
@@ -47,7 +47,7 @@ fn put_parts(text: &mut String, parts: &[Part]) -> fmt::Result
     Ok(())
 }
 
-fn put_part(text: &mut String, part: Part) -> fmt::Result
+fn put_part(text: &mut String, part: Part) -> Result<(), AllocError>
     ensures { Puts (string_bytes text.old) (part_text part) (string_bytes text.new) result }
 {
     let _ = join_law();
@@ -57,7 +57,7 @@ fn put_part(text: &mut String, part: Part) -> fmt::Result
     put_test(text, part.test)
 }
 
-fn put_test(text: &mut String, test: Test) -> fmt::Result
+fn put_test(text: &mut String, test: Test) -> Result<(), AllocError>
     ensures { Puts (string_bytes text.old) (test_text test) (string_bytes text.new) result }
 {
     match test {
@@ -70,7 +70,7 @@ fn put_test(text: &mut String, test: Test) -> fmt::Result
     }
 }
 
-fn put_action(text: &mut String, action: Action) -> fmt::Result
+fn put_action(text: &mut String, action: Action) -> Result<(), AllocError>
     ensures { Puts (string_bytes text.old) (action_text action) (string_bytes text.new) result }
 {
     match action {

@@ -1,4 +1,6 @@
 //! Policies as a text in one layout.
+#![tactic(auto)]
+
 mod clauses;
 mod laws;
 mod lists;

@@ -9,10 +9,10 @@ use crate::laws::{join_law, line_law, list_law, prefix_law};
 use policy::PrefixList;
 use prefix::Prefix;
 use rows::{ends, unrolls};
-use std::fmt;
+use std::alloc::AllocError;
 
 /// Appends the lists, one to a line.
-pub(crate) fn put_lists(text: &mut String, lists: &[PrefixList]) -> fmt::Result
+pub(crate) fn put_lists(text: &mut String, lists: &[PrefixList]) -> Result<(), AllocError>
     ensures { Puts (string_bytes text.old) (lists_text 0 (map prefixes_of lists.now)) (string_bytes text.new) result }
 {
     let _ = (list_law(), join_law(), ends(lists));
@@ -24,7 +24,7 @@ pub(crate) fn put_lists(text: &mut String, lists: &[PrefixList]) -> fmt::Result
 }
 
 /// Appends the list of that number.
-fn put_list(text: &mut String, number: usize, list: &PrefixList) -> fmt::Result
+fn put_list(text: &mut String, number: usize, list: &PrefixList) -> Result<(), AllocError>
     ensures { Puts (string_bytes text.old) (list_text number (prefixes_of list.now)) (string_bytes text.new) result }
 {
     let _ = line_law();
@@ -34,7 +34,7 @@ fn put_list(text: &mut String, number: usize, list: &PrefixList) -> fmt::Result
 }
 
 /// Appends the prefixes, with commas between them.
-fn put_prefixes(text: &mut String, prefixes: &[Prefix]) -> fmt::Result
+fn put_prefixes(text: &mut String, prefixes: &[Prefix]) -> Result<(), AllocError>
     ensures { Puts (string_bytes text.old) (prefixes_text [] (map meant prefixes.now)) (string_bytes text.new) result }
 {
     let _ = (prefix_law(), join_law(), ends(prefixes));
@@ -49,7 +49,7 @@ fn put_prefixes(text: &mut String, prefixes: &[Prefix]) -> fmt::Result
 }
 
 /// Appends a prefix, as 10.0.0.0/8.
-fn put_prefix(text: &mut String, prefix: &Prefix) -> fmt::Result
+fn put_prefix(text: &mut String, prefix: &Prefix) -> Result<(), AllocError>
     ensures { Puts (string_bytes text.old) (prefix_text (meant prefix.now)) (string_bytes text.new) result }
 {
     let address = prefix.address();

@@ -9,11 +9,11 @@ use crate::laws::{join_law, line_law, policy_law};
 use crate::lists::put_lists;
 use policy::Clause;
 use policy_tables::{Direction, Policies};
-use std::alloc::Global;
-use std::fmt;
+use std::alloc::{AllocError, Global};
+
 
 /// The policies as a text: lists first, then the policies for import and those for export by the number of the peer. Lists are called l0, l1, .. in their order.
-pub fn print(heap: Global, policies: &Policies) -> Result<String, fmt::Error>
+pub fn print(heap: Global, policies: &Policies) -> Result<String, AllocError>
     ensures { IfOk result (λ text. string_bytes text ≡ printed (content_of policies.now)) }
 {
     let _ = join_law();
@@ -25,7 +25,7 @@ pub fn print(heap: Global, policies: &Policies) -> Result<String, fmt::Error>
 }
 
 /// Appends the policies of one direction.
-fn put_policies(text: &mut String, policies: &Policies, direction: Direction) -> fmt::Result
+fn put_policies(text: &mut String, policies: &Policies, direction: Direction) -> Result<(), AllocError>
     ensures { Puts (string_bytes text.old) (policies_text direction 64 (content_of policies.now)) (string_bytes text.new) result }
 {
     let _ = (policy_law(direction, 0), join_law());
@@ -42,7 +42,7 @@ fn put_policy(
     direction: Direction,
     peer: u8,
     clauses: Option<&[Clause]>,
-) -> fmt::Result
+) -> Result<(), AllocError>
     ensures { Puts (string_bytes text.old) (policy_text direction peer (named_of clauses.entry)) (string_bytes text.new) result }
 {
     let _ = (join_law(), line_law());
@@ -55,7 +55,7 @@ fn put_policy(
     write!(text, "}}\n")
 }
 
-fn put_direction(text: &mut String, direction: Direction) -> fmt::Result
+fn put_direction(text: &mut String, direction: Direction) -> Result<(), AllocError>
     ensures { Puts (string_bytes text.old) (direction_text direction) (string_bytes text.new) result }
 {
     match direction {

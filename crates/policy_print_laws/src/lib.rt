@@ -1,4 +1,6 @@
 //! What is true of policies that are printed and of texts that are read.
+#![tactic(auto)]
+
 ghost use Rattle.policy_print_laws.specs.RoundTrip.{RoundTrip};
 
 use policy_clauses::Refusal;

@@ -1,4 +1,6 @@
 //! The policies of all peers, read from one text as a whole.
+#![tactic(auto)]
+
 ghost use Rattle.std.specs.Prelude.{◌≡◌, ◌≤◌, true, length, vec_capacity};
 ghost use Rattle.policy_tables.specs.Slots.{all_fit};
 ghost use Rattle.policy_items.specs.Meant.{stored};

@@ -1,4 +1,6 @@
 //! Tests of prefixes, routes and policies, on examples worked out by hand.
+#![tactic(auto)]
+
 #[cfg(test)]
 mod actions;
 #[cfg(test)]

@@ -1,4 +1,6 @@
 //! Reads the policy texts of a table, and tries routes on the policies in force. The table says what its rows are. A text that is refused is told of in a line, as the route server does.
+#![tactic(auto)]
+
 use configuration::Configuration;
 use notation::push_text;
 use policy::Verdict;
@@ -30,12 +32,12 @@ fn show_row(rt: &HostRuntime, configuration: &mut Configuration, row: &str) -> i
         "text" => {
             let mut bytes = Vec::new(rt.alloc());
             push_text(rt.alloc(), &mut bytes, text)?;
-            print!(rt, "{name}")?;
+            print!(rt; "{name}")?;
             read(rt, configuration, peers, bytes.as_slice())
         }
         "file" => {
             let bytes = fs::read(rt, text)?;
-            print!(rt, "{name}")?;
+            print!(rt; "{name}")?;
             read(rt, configuration, peers, bytes.as_slice())
         }
         "cut" => {
@@ -73,11 +75,11 @@ fn cut(
     text: &[u8],
 ) -> io::Result<()> {
     for count in 0..text.len() {
-        print!(rt, "{name} {count}")?;
+        print!(rt; "{name} {count}")?;
         read(rt, configuration, peers, &text[0..count])?;
     }
     let count = text.len();
-    print!(rt, "{name} {count}")?;
+    print!(rt; "{name} {count}")?;
     read(rt, configuration, peers, text)
 }
 
@@ -88,7 +90,7 @@ fn evaluate(
     direction: Direction,
     row: &str,
 ) -> io::Result<()> {
-    print!(rt, "  {row}: ")?;
+    print!(rt; "  {row}: ")?;
     let Some(trial) = trial_of(rt.alloc(), row)? else {
         return println!(rt; "no route");
     };

@@ -57,10 +57,9 @@ fn numbers(heap: Global, word: &str) -> Result<Vec<u32>, AllocError> {
 pub fn show_route(rt: &HostRuntime, route: &Route) -> io::Result<()> {
     let local_pref = route.metrics.local_pref;
     let med = route.metrics.med;
-    print!(rt, "path")?;
+    print!(rt; "path")?;
     show_numbers(rt, route.path.asns())?;
-    print!(
-        rt,
+    print!(rt;
         ", local preference {local_pref}, MED {med}, communities"
     )?;
     show_numbers(rt, route.communities.as_slice())?;
@@ -69,11 +68,11 @@ pub fn show_route(rt: &HostRuntime, route: &Route) -> io::Result<()> {
 
 fn show_numbers(rt: &HostRuntime, numbers: &[u32]) -> io::Result<()> {
     if numbers.is_empty() {
-        return print!(rt, " none");
+        return print!(rt; " none");
     }
     for number in numbers {
         let number = *number;
-        print!(rt, " {number}")?;
+        print!(rt; " {number}")?;
     }
     Ok(())
 }

@@ -1,4 +1,6 @@
 //! The words of policy texts: keywords, numbers, prefixes and names.
+#![tactic(auto)]
+
 mod keywords;
 mod laws;
 mod names;

@@ -1,4 +1,6 @@
 //! An IPv4 prefix of at most 24 bits.
+#![tactic(auto)]
+
 ghost use Rattle.std.specs.Prelude.{◌≡◌, true};
 ghost use Rattle.prefix.specs.Prefix.{is_prefix};
 

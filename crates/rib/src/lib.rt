@@ -1,4 +1,6 @@
 //! The Adj-RIB-In, by what it holds: a table that keeps what each peer last announced of each prefix.
+#![tactic(auto)]
+
 ghost use Rattle.std.specs.Prelude.{◌≡◌, ◌<◌, ◌≤◌, true, ◌&&◌, Some, None, MatchBool, MatchOption, nat_le, nat_lt};
 ghost use Rattle.prefix.specs.Meant.{meant};
 ghost use Rattle.prefix.specs.Prefix.{count, number};

@@ -1,4 +1,6 @@
 //! A route: a prefix, and what its sender says of the way there.
+#![tactic(auto)]
+
 ghost use Rattle.std.specs.Prelude.{◌≡◌, ◌<◌, ◌≤◌, true, take};
 ghost use Rattle.route.specs.Numbers.{rising};
 

@@ -1,4 +1,6 @@
 //! Facts about a row that a loop over it cites by a call: the calls do nothing.
+#![tactic(auto)]
+
 ghost use Rattle.std.specs.Prelude.{◌≡◌, ◌+◌, ◌<◌, ◌≤◌, [], ◌∷◌, ◌++◌, length, take, drop, slice_index_or, slice_set};
 ghost use Rattle.rows.specs.Rest.{FillSteps, RestSteps};
 

@@ -1,4 +1,6 @@
 //! The words of a script of events: numbers, addresses, prefixes and bytes, and why a line is refused.
+#![tactic(auto)]
+
 mod problem;
 mod reading;
 mod words;

@@ -1,4 +1,6 @@
 //! What each peer should hold: import, selection and export.
+#![tactic(auto)]
+
 use peers::PeerSet;
 use rib::Rib;
 use route::Route;

@@ -3,6 +3,8 @@
 //! A row is a name and, behind a colon, its parts: `1 by 7 9` and `1 far 3 by 7 9`, what peer 1 announces, with MED 3; `elsewhere 1 by 7`, what it announces of another prefix; `from 1 if any then like 200` and `to 1 if not passes 5 then leave`, clauses of its import and export policy, behind which everything is accepted; `silent 1`; `peers 2`. A row without a colon is a heading. The own network is 5. Of a route its path is printed, in brackets local preference and MED, and its communities.
 //!
 //! Then compares thirteen candidates with each other.
+#![tactic(auto)]
+
 use printing::show;
 use ranks::show_ranks;
 use situations::Situation;
@@ -34,7 +36,7 @@ fn show_row(rt: &HostRuntime, row: &str) -> anyhow::Result<()> {
     for part in parts.split(';') {
         situation.read(rt.alloc(), part)?;
     }
-    print!(rt, "{name}:")?;
+    print!(rt; "{name}:")?;
     show(rt, &situation)?;
     Ok(())
 }

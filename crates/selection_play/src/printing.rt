@@ -19,10 +19,10 @@ pub fn show(rt: &HostRuntime, situation: &Situation) -> io::Result<()> {
         rib: &situation.table,
     };
     show_candidate(rt, view.select(eight()))?;
-    print!(rt, "; offered:")?;
+    print!(rt; "; offered:")?;
     show_candidate(rt, view.offer(eight()))?;
     for peer in 0..peers {
-        print!(rt, "; {peer}:")?;
+        print!(rt; "; {peer}:")?;
         show_option(rt, view.intended(peer, eight()))?;
     }
     println!(rt; "")
@@ -32,16 +32,16 @@ fn show_candidate(rt: &HostRuntime, candidate: Option<Candidate>) -> io::Result<
     match candidate {
         Some(candidate) => {
             let peer = candidate.peer;
-            print!(rt, " {peer} by")?;
+            print!(rt; " {peer} by")?;
             show_route(rt, &candidate.route)
         }
-        None => print!(rt, " none"),
+        None => print!(rt; " none"),
     }
 }
 
 fn show_option(rt: &HostRuntime, route: Option<Route>) -> io::Result<()> {
     match route {
         Some(route) => show_route(rt, &route),
-        None => print!(rt, " none"),
+        None => print!(rt; " none"),
     }
 }

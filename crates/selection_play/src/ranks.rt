@@ -52,9 +52,9 @@ pub fn show_ranks(rt: &HostRuntime) -> io::Result<()> {
     for numbers in BEST_TO_WORST {
         if let Some(first) = candidate(numbers) {
             let peer = first.peer;
-            print!(rt, "{peer} outranks:")?;
+            print!(rt; "{peer} outranks:")?;
             show_outranked(rt, first)?;
-            print!(rt, "; the better of it and each:")?;
+            print!(rt; "; the better of it and each:")?;
             show_better(rt, first)?;
             println!(rt; "")?;
         }
@@ -67,7 +67,7 @@ fn show_outranked(rt: &HostRuntime, first: Candidate) -> io::Result<()> {
         if let Some(second) = candidate(numbers) {
             if first.rank().outranks(second.rank()) {
                 let peer = second.peer;
-                print!(rt, " {peer}")?;
+                print!(rt; " {peer}")?;
             }
         }
     }
@@ -97,13 +97,13 @@ fn show_best(rt: &HostRuntime) -> io::Result<()> {
             rising = better_of(rising, candidate);
         }
     }
-    print!(rt, "the best of one:")?;
+    print!(rt; "the best of one:")?;
     if let Some(only) = candidate((0, 32, 4_294_967_295, 255)) {
         show_peer(rt, better_of(None, only))?;
     }
-    print!(rt, "; of all, from the best:")?;
+    print!(rt; "; of all, from the best:")?;
     show_peer(rt, falling)?;
-    print!(rt, "; of all, from the worst:")?;
+    print!(rt; "; of all, from the worst:")?;
     show_peer(rt, rising)?;
     println!(rt; "")
 }
@@ -112,8 +112,8 @@ fn show_peer(rt: &HostRuntime, candidate: Option<Candidate>) -> io::Result<()> {
     match candidate {
         Some(candidate) => {
             let peer = candidate.peer;
-            print!(rt, " {peer}")
+            print!(rt; " {peer}")
         }
-        None => print!(rt, " none"),
+        None => print!(rt; " none"),
     }
 }

@@ -1,4 +1,6 @@
 //! Tests of import, selection and export, on examples worked out by hand.
+#![tactic(auto)]
+
 #[cfg(test)]
 mod examples;
 #[cfg(test)]

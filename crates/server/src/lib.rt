@@ -1,4 +1,6 @@
 //! The route server: each event changes what it goes by, and tells every peer what is new for it.
+#![tactic(auto)]
+
 use peers::PeerSet;
 use rib::Rib;
 use selection::PolicySource;

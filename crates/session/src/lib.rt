@@ -1,4 +1,6 @@
 //! The session of one peer: how far it has come up, and its two clocks.
+#![tactic(auto)]
+
 ghost use Rattle.std.specs.Prelude.{◌≡◌};
 ghost use Rattle.session.specs.Meant.{session_of};
 ghost use Rattle.session.specs.Session.{down, established, heard_now, is_down, is_established, is_keepalive_due, is_silent, later, opened, sent_now, ticked};

@@ -1,4 +1,6 @@
 //! The sessions of all peers.
+#![tactic(auto)]
+
 ghost use Rattle.std.specs.Prelude.{◌≡◌, length};
 
 use session::Session;

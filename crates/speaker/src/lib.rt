@@ -1,4 +1,6 @@
 //! The whole route server: one call for one event in bytes.
+#![tactic(auto)]
+
 use frame::settings::Settings;
 use outbox::{Outbox, Output};
 use policy_tables::Policies;

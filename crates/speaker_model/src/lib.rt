@@ -1,4 +1,6 @@
 //! The whole server over the frames that come in, and what is promised of it.
+#![tactic(auto)]
+
 ghost use Rattle.speaker_model.specs.Agree.{Agreement};
 ghost use Rattle.speaker_model.specs.Laws.{Laws};
 ghost use Rattle.speaker_model.specs.Promise.{InBytes};

@@ -1,4 +1,6 @@
 //! The Adj-RIB-In in memory: the routes of all peers in one row, in the order of their keys.
+#![tactic(auto)]
+
 ghost use Rattle.std.specs.Prelude.{◌≡◌, ◌≤◌, length, vec_capacity};
 ghost use Rattle.rib.specs.Received.{capacity};
 ghost use Rattle.table.specs.Table.{Keyed, Rises};

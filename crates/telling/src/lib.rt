@@ -1,4 +1,6 @@
 //! Telling peers what is new for them.
+#![tactic(auto)]
+
 ghost use Rattle.model.specs.Updates.{Update};
 ghost use Rattle.prefix.specs.Meant.{meant};
 ghost use Rattle.prefix.specs.Prefix.{number};

@@ -1,4 +1,6 @@
 //! A policy text as a row of tokens: words and signs, with their places.
+#![tactic(auto)]
+
 mod classes;
 mod gaps;
 mod laws;

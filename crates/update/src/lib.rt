@@ -1,4 +1,6 @@
 //! UPDATE messages.
+#![tactic(auto)]
+
 mod finding;
 mod layout;
 mod reading;

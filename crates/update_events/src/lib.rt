@@ -1,4 +1,6 @@
 //! An UPDATE as events of the server: of each prefix that it names its last word, in rising order of prefixes.
+#![tactic(auto)]
+
 mod laws;
 mod naming;
 mod needing;

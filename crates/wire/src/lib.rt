@@ -1,4 +1,6 @@
 //! Numbers, pieces and prefixes in bytes that are lent.
+#![tactic(auto)]
+
 mod bytes;
 mod nlri;
 

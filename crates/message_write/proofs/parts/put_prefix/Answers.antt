@@ -5,6 +5,6 @@ use Rattle.prefix.specs.Meant.{meant}
 
 pub returns : goal.returns
 returns c =
-    let all = c.prefix-law.ensures.prefix (meant c.args.prefix.now) in
-    let parts : prefix_bytes (meant c.args.prefix.now) ≡ (c.length-bits.result ∷ []) ++ c.first.result.now = cc (all, c.length-bits.ensures, c.first.ensures, c.to-be-bytes-address.ensures, c.address.ensures, c.from.ensures) in
-    c.join-law.ensures.join c.args.place c.put-bytes-end.result c.put-bytes.result _ _ _ c.args.buffer.now c.put-bytes-end.new.buffer c.put-bytes.new.buffer c.put-bytes-end.ensures c.put-bytes.ensures parts
+    let all = c.prefix_law.ensures.prefix (meant c.args.prefix.now) in
+    let parts : prefix_bytes (meant c.args.prefix.now) ≡ (c.length-bits.result ∷ []) ++ c.first.result.now = cc (all, c.length-bits.ensures, c.first.ensures, c.to_be_bytes-address.ensures, c.address.ensures, c.from.ensures) in
+    c.join_law.ensures.join c.args.place c.put_bytes-end.result c.put_bytes.result _ _ _ c.args.buffer.now c.put_bytes-end.new.buffer c.put_bytes.new.buffer c.put_bytes-end.ensures c.put_bytes.ensures parts

@@ -2,4 +2,4 @@ use Rattle.outbox.proofs.Rows.{outbox_laws}
 use Rattle.outbox.proofs.Outbox.laws.Goals as goal
 
 pub returns : goal.returns
-returns g c = outbox_laws g.O-as-Output.writes
+returns g c = outbox_laws g.O.Output.writes

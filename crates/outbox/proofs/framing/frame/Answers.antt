@@ -4,10 +4,10 @@ use Rattle.outbox.specs.Message.{bytes_of}
 
 pub enclose-requires : goal.enclose-requires
 enclose-requires c =
-    let behind = c.fit-law.ensures.behind (bytes_of c.args.own-asn c.args.address c.args.message.now) c.write-message.new.buffer c.write-message.result c.write-message.ensures.wrote c.write-message.ensures.short in
+    let behind = c.fit_law.ensures.behind (bytes_of c.args.own_asn c.args.address c.args.message.now) c.write_message.new.buffer c.write_message.result c.write_message.ensures.wrote c.write_message.ensures.short in
     search rules
 
 pub returns : goal.returns
 returns c =
-    let behind = c.fit-law.ensures.behind (bytes_of c.args.own-asn c.args.address c.args.message.now) c.write-message.new.buffer c.write-message.result c.write-message.ensures.wrote c.write-message.ensures.short in
+    let behind = c.fit_law.ensures.behind (bytes_of c.args.own_asn c.args.address c.args.message.now) c.write_message.new.buffer c.write_message.result c.write_message.ensures.wrote c.write_message.ensures.short in
     search rules

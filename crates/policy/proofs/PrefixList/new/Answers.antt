@@ -2,5 +2,5 @@ use Rattle.std.proofs.Common.{arith}
 use Rattle.policy.proofs.Beginnings.{empty}
 use Rattle.policy.proofs.PrefixList.new.Goals as goal
 
-pub invariant-of-result : goal.invariant-of-result
-invariant-of-result c = (omega arith, (λ p. empty _ p, tt))
+pub invariant_of-result : goal.invariant_of-result
+invariant_of-result c = record { few = omega arith; started = λ p. empty _ p }

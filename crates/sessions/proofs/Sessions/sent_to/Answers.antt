@@ -12,13 +12,13 @@ loop-place-preserved c =
     let g = sent_to (is_member c.args.peers.now) f in
     let h = sessions_of c.loop-place.self in
     let was = c.get-session.ensures ∙ untouched f g h c.loop-place.place c.loop-place.place refl c.loop-place.invariant in
-    one_more f g h (sessions_of c.set.new.self) c.loop-place.place c.loop-place.place (session_of c.if-sent.result) refl c.loop-place.invariant
-    (c.if-sent.ensures ∙ (λ t. cond (c.contains.ensures t) (sent_now (was t)) (was t)) ∙ sym (c.sent-law.ensures.sent c.loop-place.place))
+    one_more f g h (sessions_of c.set.new.self) c.loop-place.place c.loop-place.place (session_of c.if_sent.result) refl c.loop-place.invariant
+    (c.if_sent.ensures ∙ (λ t. cond (c.contains.ensures t) (sent_now (was t)) (was t)) ∙ sym (c.sent_law.ensures.sent c.loop-place.place))
     c.set.ensures
 
 pub returns : goal.returns
 returns c =
     let f = sessions_of c.args.self.now in
     all_are f (sent_to (is_member c.args.peers.now) f) (sessions_of c.loop-place.self) c.loop-place.place
-    (λ i h. let gone = c.outside-law.ensures i (omega (arith, h, c.loop-place-test.false)) in stays_sent (is_member c.args.peers.now) f i gone)
+    (λ i h. let gone = c.outside_law.ensures i (omega (arith, h, c.loop-place-test.false)) in stays_sent (is_member c.args.peers.now) f i gone)
     c.loop-place.invariant

@@ -13,10 +13,10 @@ loop-place-preserved c =
     let h = sessions_of c.loop-place.self in
     let was = c.get.ensures ∙ untouched f (sessions_later f) h k k refl c.loop-place.invariant.0 in
     let later = c.tick-session.ensures ∙ ap ticked was in (
-      one_more f (sessions_later f) h (sessions_of c.set-in-loop-place.new.self) k k (session_of c.unless-silent.result) refl c.loop-place.invariant.0
-          (c.unless-silent.ensures ∙ (λ t. cond (is_silent (later t)) down (later t)) ∙ ap (λ b. cond b down (ticked (f k))) (sym (c.pass-law.ensures.silent k)) ∙ sym (c.pass-law.ensures.later k))
+      one_more f (sessions_later f) h (sessions_of c.set-in-loop-place.new.self) k k (session_of c.unless_silent.result) refl c.loop-place.invariant.0
+          (c.unless_silent.ensures ∙ (λ t. cond (is_silent (later t)) down (later t)) ∙ ap (λ b. cond b down (ticked (f k))) (sym (c.pass_law.ensures.silent k)) ∙ sym (c.pass_law.ensures.later k))
           c.set-in-loop-place.ensures,
-      one_more_silent (silent_in f) (is_member c.loop-place.silent) (is_member c.set.new.self) k c.is-silent.result c.loop-place.invariant.1 (c.is-silent.ensures ∙ ap is_silent later ∙ sym (c.pass-law.ensures.silent k)) c.set.ensures,
+      one_more_silent (silent_in f) (is_member c.loop-place.silent) (is_member c.set.new.self) k c.is_silent.result c.loop-place.invariant.1 (c.is_silent.ensures ∙ ap is_silent later ∙ sym (c.pass_law.ensures.silent k)) c.set.ensures,
     )
 
 pub returns : goal.returns
@@ -24,7 +24,7 @@ returns c =
     let f = sessions_of c.args.self.now in
     record {
       sessions = all_are f (sessions_later f) (sessions_of c.loop-place.self) c.loop-place.place
-          (λ i h. let gone = c.outside-law.ensures i (omega (arith, h, c.loop-place-test.false)) in gone ∙ sym (c.pass-law.ensures.stays i gone))
+          (λ i h. let gone = c.outside_law.ensures i (omega (arith, h, c.loop-place-test.false)) in gone ∙ sym (c.pass_law.ensures.stays i gone))
           c.loop-place.invariant.0;
       silent = all_silent (silent_in f) (is_member c.loop-place.silent) c.loop-place.place (omega (arith, c.loop-place-test.false)) c.loop-place.invariant.1;
     }

@@ -4,4 +4,4 @@ use Rattle.table.proofs.methods.TableRib.get.Goals as goal
 
 pub returns-in-Err : goal.returns-in-Err
 returns-in-Err c =
-    c.lookup-law.ensures.absent c.args.self.now.keys.items c.args.self.now.routes.items c.args.peer (number (meant c.args.prefix)) c.in-Err.field-0 c.in-Err.ensures
+    c.lookup_law.ensures.absent c.args.self.now.keys.items c.args.self.now.routes.items c.args.peer (number (meant c.args.prefix)) c.in-Err.field-0 c.in-Err.ensures

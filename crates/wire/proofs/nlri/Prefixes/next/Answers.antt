@@ -5,5 +5,5 @@ use Rattle.wire.proofs.nlri.Prefixes.next.Goals as goal
 pub returns : goal.returns
 returns c =
     let over : length c.loop-size.rest.now ≡ 0 = grind (arith, nat_tests) in
-    let nothing = c.named-law.ensures.end c.loop-size.rest.now over in
+    let nothing = c.named_law.ensures.end c.loop-size.rest.now over in
     (sym c.loop-size.invariant ∙ nothing, nothing)
