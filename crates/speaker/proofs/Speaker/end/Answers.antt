@@ -7,4 +7,4 @@ use Rattle.std.proofs.Common.{rules}
 
 pub returns : goal.returns
 returns g c =
-    before g.row.O.Output.writes (state_of g.R.Rib.received c.args.self.now) (state_of g.R.Rib.received c.go_down.new.self) c.close.new.self _ _ _ (λ _. one (Puts g.row.O.Output.writes) _ _ _ c.close.ensures) c.go_down.ensures
+    before g.O.Output.writes (state_of g.R.Rib.received c.args.self.now) (state_of g.R.Rib.received c.go_down.new.self) c.close.new.self _ _ _ (λ _. one (Puts g.O.Output.writes) _ _ _ c.close.ensures) c.go_down.ensures

@@ -11,7 +11,7 @@ use Rattle.speaker.proofs.Speaker.finish.Goals as goal
 
 pub returns-then-is_tick : goal.returns-then-is_tick
 returns-then-is_tick g c =
-    let W = g.row.O.Output.writes in
+    let W = g.O.Output.writes in
     let s = state_of g.R.Rib.received c.args.self.now in
     let t = state_of g.R.Rib.received (record { settings = c.args.self.now.settings; sessions = c.sent_to-then-is_tick.new.self; server = c.args.self.now.server; outbox = c.keep_alive.new.outbox; spare = c.args.self.now.spare }) in
     let noted = sessions_of c.sent_to.new.self in
@@ -24,4 +24,4 @@ pub returns-else-is_tick : goal.returns-else-is_tick
 returns-else-is_tick g c =
     let s = state_of g.R.Rib.received c.args.self.now in
     let t = state_of g.R.Rib.received (record { settings = c.args.self.now.settings; sessions = c.sent_to.new.self; server = c.args.self.now.server; outbox = c.args.self.now.outbox; spare = c.args.self.now.spare }) in
-    finishes g.row.O.Output.writes (happening c.args.event) s t (sym c.if-is_tick.ensures) refl refl refl refl (λ i. c.sent_to.ensures i ∙ ap (λ p. sent_to (is_member p) s.sessions i) c.reached-2.ensures)
+    finishes g.O.Output.writes (happening c.args.event) s t (sym c.if-is_tick.ensures) refl refl refl refl (λ i. c.sent_to.ensures i ∙ ap (λ p. sent_to (is_member p) s.sessions i) c.reached-2.ensures)

@@ -6,7 +6,7 @@ use Rattle.speaker.specs.State.{state_of}
 
 pub returns : goal.returns
 returns g c =
-    let W = g.row.O.Output.writes in
+    let W = g.O.Output.writes in
     let h = happening c.args.event in
     let s = state_of g.R.Rib.received c.args.self.now in
     let t = state_of g.R.Rib.received c.step-refusal.new.self in

@@ -18,7 +18,7 @@ returns g c =
       refl,
       c.new-3.ensures.output_is,
       λ empty unread.
-          stands_at_start g.row.O.Output.writes s (rules c.own_asn-own_asn.result) (made.0 ∙ c.peer_count.ensures) (omega (arith, made.1, c.peer_count.ensures)) c.new-2.ensures (c.new-3.ensures.own-is ∙ c.own_asn-own_asn.ensures) (c.new-3.ensures.address_is ∙ c.own_address.ensures)
+          stands_at_start g.O.Output.writes s (rules c.own_asn-own_asn.result) (made.0 ∙ c.peer_count.ensures) (omega (arith, made.1, c.peer_count.ensures)) c.new-2.ensures (c.new-3.ensures.own_is ∙ c.own_asn-own_asn.ensures) (c.new-3.ensures.address_is ∙ c.own_address.ensures)
           (ap rules c.own_asn-own_asn.ensures ∙ rules_at_start_lem (exchange c.args.settings) (content_of c.args.policies) unread)
           (subst (λ n. model.Stands (size_of n) (rules c.own_asn-own_asn.result) s.now []) (sym made.0) (made.2 empty)),
     )

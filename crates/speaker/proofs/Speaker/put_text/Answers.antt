@@ -13,7 +13,7 @@ use Rattle.speaker.proofs.Speaker.put_text.Goals as goal
 
 pub returns-in-Ok : goal.returns-in-Ok
 returns-in-Ok g c =
-    let W = g.row.O.Output.writes in
+    let W = g.O.Output.writes in
     let s = state_of g.R.Rib.received c.args.self.now in
     let t = state_of g.R.Rib.received (record { settings = c.args.self.now.settings; sessions = c.args.self.now.sessions; server = c.put_in_force.new.self; outbox = c.put_in_force.new.sink; spare = c.put_in_force.new.policies }) in
     let content = content_of c.read.new.self in
@@ -27,7 +27,7 @@ returns-in-Ok g c =
 
 pub returns-in-Err : goal.returns-in-Err
 returns-in-Err g c =
-    let W = g.row.O.Output.writes in
+    let W = g.O.Output.writes in
     let s = state_of g.R.Rib.received c.args.self.now in
     let read = ap (λ n. meaning n c.args.text.now) (sym c.peer_count.ensures) ∙ c.in-Err.ensures.read in
     record {

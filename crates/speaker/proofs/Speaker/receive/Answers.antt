@@ -10,7 +10,7 @@ use Rattle.speaker.proofs.Speaker.receive.Goals as goal
 
 pub returns-in-Down : goal.returns-in-Down
 returns-in-Down g c =
-    let W = g.row.O.Output.writes in
+    let W = g.O.Output.writes in
     let i = c.args.peer in
     let s = state_of g.R.Rib.received c.args.self.now in
     let off = ap (λ v. v.phase) (sym c.get.ensures) ∙ sym c.phase.ensures ∙ c.in-Down.is in

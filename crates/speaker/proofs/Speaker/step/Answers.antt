@@ -11,6 +11,6 @@ returns-in-PolicyText g c =
     let s = state_of g.R.Rib.received c.args.self.now in
     let t = state_of g.R.Rib.received c.put_text.new.self in
     record {
-      step = subst (λ (e : Event). Takes g.row.O.Output.writes (step_by s.exchange s.now.received (happening e) s.sessions) s t) (sym c.in-PolicyText.is) c.put_text.ensures.step;
+      step = subst (λ (e : Event). Takes g.O.Output.writes (step_by s.exchange s.now.received (happening e) s.sessions) s t) (sym c.in-PolicyText.is) c.put_text.ensures.step;
       answer = subst (λ (e : Event). AnswersTo (count_of s.exchange) (happening e) c.put_text.result) (sym c.in-PolicyText.is) c.put_text.ensures.answer;
     }

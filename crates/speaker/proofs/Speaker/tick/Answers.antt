@@ -9,7 +9,7 @@ use Rattle.speaker.proofs.Speaker.tick.Goals as goal
 
 pub returns-then-any_below : goal.returns-then-any_below
 returns-then-any_below g c =
-    let W = g.row.O.Output.writes in
+    let W = g.O.Output.writes in
     let s = state_of g.R.Rib.received c.args.self.now in
     let t = state_of g.R.Rib.received (record { settings = c.args.self.now.settings; sessions = c.tick-silent.new.self; server = c.take_down.new.self; outbox = c.take_down.new.sink; spare = c.args.self.now.spare }) in
     let set = is_member c.tick-silent.result in
@@ -20,7 +20,7 @@ returns-then-any_below g c =
 
 pub returns-else-any_below : goal.returns-else-any_below
 returns-else-any_below g c =
-    let W = g.row.O.Output.writes in
+    let W = g.O.Output.writes in
     let s = state_of g.R.Rib.received c.args.self.now in
     let t = state_of g.R.Rib.received (record { settings = c.args.self.now.settings; sessions = c.tick-silent.new.self; server = c.args.self.now.server; outbox = c.end_sessions.new.outbox; spare = c.args.self.now.spare }) in
     let set = is_member c.tick-silent.result in

@@ -13,7 +13,7 @@ use Rattle.speaker.proofs.Speaker.update.Goals as goal
 
 pub returns : goal.returns
 returns g c =
-    let W = g.row.O.Output.writes in
+    let W = g.O.Output.writes in
     let i = c.args.peer in
     let content = content_meant c.args.content in
     let m = c.args.message.now in

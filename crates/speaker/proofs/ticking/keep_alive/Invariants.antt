@@ -6,4 +6,4 @@ use Rattle.speaker_model.specs.World.{keepalives}
 
 -- those below have their KEEPALIVE
 abbrev pub invariant-loop-peer : goal.invariant-loop-peer
-invariant-loop-peer g l = Chain (Puts g.row.O-Output.writes) (box_of l.initial.outbox) (keepalives (sessions_of l.sessions) l.peer) (box_of l.outbox)
+invariant-loop-peer g l = Chain (Puts g.O.Output.writes) (box_of l.initial.outbox) (keepalives (sessions_of l.sessions) l.peer) (box_of l.outbox)
