@@ -51,7 +51,7 @@ fn run(rt: &HostRuntime, verbose: bool) -> io::Result<()> {
     let table = Table::new(heap)?;
     let policies = Policies::new(heap)?;
     let spare = Policies::new(heap)?;
-    let output = FrameWriter::new(rt.stdout());
+    let output = FrameWriter::new(heap, rt.stdout())?;
     let Some(mut speaker) = Speaker::new(settings, table, policies, spare, output) else {
         return Ok(());
     };

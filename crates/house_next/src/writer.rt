@@ -3,6 +3,8 @@ ghost use Rattle.std.specs.Prelude.{◌≡◌};
 ghost use Rattle.house_next.specs.Written.{Anything};
 
 use outbox::Output;
+use std::alloc::Global;
+use std::io;
 use std::io::{BufWriter, Write};
 
 /// Frames through a buffer. Once something can't be written it stays broken, and the program ends.
@@ -13,11 +15,11 @@ pub struct FrameWriter<W: Write + Drop> {
 }
 
 impl<W: Write + Drop> FrameWriter<W> {
-    pub fn new(writer: W) -> FrameWriter<W> {
-        FrameWriter {
-            writer: BufWriter::new(writer),
+    pub fn new(alloc: Global, writer: W) -> io::Result<FrameWriter<W>> {
+        Ok(FrameWriter {
+            writer: BufWriter::new(alloc, writer)?,
             broken: false,
-        }
+        })
     }
 
     /// Whether something could not be written.
