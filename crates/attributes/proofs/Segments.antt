@@ -1,6 +1,6 @@
 -- Gathering a path segment by segment gives the path. Assumes nothing.
-use Rattle.std.proofs.Common.{◌≡◌, ℕ, ◌+◌, ◌*◌, ◌/◌, ◌<◌, ◌≤◌, Bool, true, false, cond, not, ◌&&◌, ◌||◌, eqb, ltb, leb, List, [], ◌∷◌, ◌++◌, length, get_or, take, drop, Some, None, Option, sym, refl, ap, ◌∙◌, arith, length-append, length-drop}
-use Rattle.attributes.specs.AsPath.{Reading, got, fault, segment_size, asns_in, is_sequence, asns_of_all, path_in, are_sequences, is_path, read_path}
+use Rattle.std.proofs.Common.{◌≡◌, ℕ, ◌+◌, ◌/◌, ◌<◌, ◌≤◌, Bool, true, false, cond, not, ◌&&◌, eqb, ltb, leb, List, [], ◌∷◌, ◌++◌, length, get_or, take, drop, Some, None, Option, sym, refl, ap, ◌∙◌, arith, length-append, length-drop}
+use Rattle.attributes.specs.AsPath.{got, fault, segment_size, asns_in, is_sequence, asns_of_all, path_in, are_sequences, read_path}
 use Rattle.attributes.specs.Gathering.{with_segment, gathered, or_invalid, read_segments}
 use Rattle.attributes.specs.Steps.{SegmentSteps, WithSteps, PathSteps}
 use Rattle.attributes.proofs.Numerals.{count}

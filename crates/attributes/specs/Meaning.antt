@@ -1,12 +1,11 @@
 -- What the attributes of an UPDATE say. Assumes nothing.
-use Rattle.std.specs.Prelude.{ℕ, Bool, true, false, cond, ◌||◌, List, [], ◌∷◌, map, length, Some, None, Option, ◌==◌, nat_le, nat_lt}
+use Rattle.std.specs.Prelude.{ℕ, cond, List, length, ◌==◌, nat_le, nat_lt}
 use Rattle.attributes.specs.AsPath.{Reading, got, fault, read_path}
-use Rattle.attributes.specs.Layout.{attribute_size, type_of, value_of, kind_of, has_form}
+use Rattle.attributes.specs.Layout.{type_of, value_of, kind_of, has_form}
 use Rattle.attributes.specs.declared.Kind.{Kind}
 use Rattle.attributes.specs.declared.Kind.TheVariants as a_kind
-use Rattle.route.specs.Numbers.{is_in, sorted}
+use Rattle.route.specs.Numbers.{sorted}
 use Rattle.wire.specs.Bytes.{numbers, u32_of}
-use Rattle.wire.specs.Pieces.{pieces, overruns}
 
 -- who is at the other end of a session
 pub record Peer : Type 0 where

@@ -1,5 +1,5 @@
 -- One step of each recursion over the bytes of attributes. Assumes nothing.
-use Rattle.std.specs.Prelude.{◌≡◌, ℕ, ◌+◌, ◌-◌, ◌/◌, ◌<◌, ◌≤◌, Bool, true, false, cond, List, [], ◌∷◌, ◌++◌, length, take, drop, Some, None, Option, ◌≢◌, slice_index, slice_set}
+use Rattle.std.specs.Prelude.{◌≡◌, ℕ, ◌+◌, ◌-◌, ◌/◌, ◌<◌, ◌≤◌, true, false, List, [], ◌∷◌, ◌++◌, length, take, drop, Some, None, Option, ◌≢◌, slice_index, slice_set}
 use Rattle.attributes.specs.AsPath.{got, fault, segment_size, asns_in, read_path}
 use Rattle.attributes.specs.Gathering.{with_segment, or_invalid, read_segments, starting_with}
 use Rattle.attributes.specs.Layout.{type_of, value_of, kind_of, has_form}

@@ -1,5 +1,5 @@
 -- The laws of reading frames. Assumes nothing.
-use Rattle.std.proofs.Common.{◌≡◌, ℕ, ◌+◌, ◌<◌, ◌≤◌, Bool, true, false, cond, eqb, ltb, ◌⊎◌, List, ◌++◌, length, get_or, take, drop, sym, refl, ap, ◌∙◌, subst, inl, inr, ⊎_elim, arith}
+use Rattle.std.proofs.Common.{◌≡◌, ℕ, ◌<◌, ◌≤◌, Bool, true, false, cond, eqb, ltb, ◌⊎◌, List, ◌++◌, length, get_or, take, drop, sym, refl, ap, ◌∙◌, subst, inl, inr, ⊎_elim, arith}
 use Rattle.std.proofs.lemmas.List.{length-append, length-take, length-take-le, get_or_append_left, take-append-le, take-append-drop, take-take}
 use Rattle.frame.specs.Frame.{Outcome, Happening, up, down, whole, refused, more, unreadable, outcome, before_settings, under_settings, of_peer}
 use Rattle.frame.specs.Laws.{taken, Lawful, Laws}

@@ -1,5 +1,5 @@
 -- Chains: none, one, and one behind the other. Assumes nothing.
-use Rattle.std.proofs.Common.{◌≡◌, List, [], ◌∷◌, ◌++◌, sym, refl, subst}
+use Rattle.std.proofs.Common.{List, [], ◌∷◌, ◌++◌, sym, refl, subst}
 use Rattle.model.specs.Chain.{Chain}
 
 module _ {S A : Type 0} (R : S → A → S → Type 0) where

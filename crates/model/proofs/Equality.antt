@@ -1,5 +1,5 @@
 -- Routes that are the same are equal. Assumes nothing.
-use Rattle.std.proofs.Common.{◌≡◌, ℕ, Bool, true, false, ◌&&◌, eqb, List, [], ◌∷◌, Some, None, Option, sym, refl, ap, ◌∙◌, arith}
+use Rattle.std.proofs.Common.{◌≡◌, ℕ, true, false, eqb, List, [], ◌∷◌, Some, None, Option, refl, ap}
 use Rattle.route.specs.Same.{same_row, same_route, same_option}
 use Rattle.prefix.specs.Prefix.{Prefix, same}
 use Rattle.route.specs.Route.{Route}

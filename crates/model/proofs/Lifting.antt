@@ -1,17 +1,17 @@
 -- From one step of a state to the promise after all events. Assumes nothing.
-use Rattle.std.proofs.Common.{◌≡◌, ℕ, zero, suc, ◌+◌, ◌<◌, ◌≤◌, Bool, true, false, cond, ◌&&◌, eqb, ltb, leb, List, [], ◌∷◌, ◌++◌, Some, None, Option, sym, refl, ap, ◌∙◌, subst, ⊎_elim, append-nil, arith}
+use Rattle.std.proofs.Common.{◌≡◌, ℕ, zero, suc, ◌+◌, ◌<◌, ◌≤◌, Bool, true, false, cond, ◌&&◌, eqb, ltb, leb, List, [], ◌∷◌, ◌++◌, Some, None, Option, sym, refl, ap, ◌∙◌, subst, ⊎_elim, arith}
 use Rattle.model.proofs.Promises.{exact, whole, sends}
 use Rattle.model.proofs.Telling.{held_append}
 use Rattle.model.specs.Chain.{Chain}
-use Rattle.model.specs.Model.{Size, Event, Announces, Withdraws, Establishes, GoDown, PutInForce, Now, at, down, all_down, says, step, after, intended_in, begins, history, holds, sent}
-use Rattle.model.specs.Stands.{Alike, Sound, Stands, held_before, Steps, Keeps, Promised}
-use Rattle.model.specs.Updates.{Update, Held, tell_if, row, updates, Sent, Begins, Tells, held_after, nothing}
-use Rattle.policy.specs.Policy.{Policy, evaluate}
+use Rattle.model.specs.Model.{Size, Event, Announces, Withdraws, Establishes, GoDown, PutInForce, Now, down, all_down, says, step, after, intended_in, begins, history, holds, sent}
+use Rattle.model.specs.Stands.{Alike, Sound, held_before, Steps, Promised}
+use Rattle.model.specs.Updates.{Update, Held, tell_if, row, updates, held_after, nothing}
+use Rattle.policy.specs.Policy.{evaluate}
 use Rattle.prefix.specs.Prefix.{number}
-use Rattle.rib.specs.Received.{Received, updated, cleared, is_route, count_of, stored}
+use Rattle.rib.specs.Received.{updated, is_route, count_of, stored}
 use Rattle.route.specs.Route.{Route, with_local_pref}
-use Rattle.selection.specs.Intended.{Rules, unless_ring, imported, Candidate, or_better, selected, offered, exported_to, intended}
-use Rattle.std.proofs.lemmas.Bool.{cases_Bool, cond-true, cond-false, cond_both, both_ways, lt-ltb, ltb-true}
+use Rattle.selection.specs.Intended.{Rules, unless_ring, imported, or_better, selected, offered, exported_to}
+use Rattle.std.proofs.lemmas.Bool.{cases_Bool, cond-true, cond-false, cond_both, ltb-true}
 use Rattle.std.proofs.lemmas.Bool.Decides.{nat_tests as tests}
 
 -- what is intended in states that go by the same is the same

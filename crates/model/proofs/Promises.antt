@@ -1,19 +1,19 @@
 -- What is promised of the whole. Assumes nothing.
-use Rattle.std.proofs.Common.{◌≡◌, ℕ, zero, suc, ◌+◌, ◌<◌, ◌≤◌, Bool, true, false, cond, ◌&&◌, eqb, ltb, leb, List, [], ◌∷◌, ◌++◌, length, get_or, Some, None, Option, sym, refl, ap, ◌∙◌, subst, ⊎_elim, append_assoc, append-nil, arith}
+use Rattle.std.proofs.Common.{◌≡◌, ℕ, ◌<◌, Bool, true, false, cond, ◌&&◌, eqb, ltb, leb, List, [], ◌∷◌, ◌++◌, Some, None, Option, sym, refl, ap, ◌∙◌, subst, append_assoc, append-nil, arith}
 use Rattle.model.proofs.Capacity.{in_capacity}
 use Rattle.model.proofs.Ordering.{all_at, ToUp, updates_to_up, updates_ordered}
 use Rattle.model.proofs.Telling.{held_append, updates_held, Fresh, fresh_append, fresh_at, updates_fresh}
-use Rattle.model.specs.Model.{Size, Event, Announces, Withdraws, Establishes, GoDown, PutInForce, Now, down, all_down, says, step, after, intended_in, begins, news, history, holds, sent}
+use Rattle.model.specs.Model.{Size, Event, Announces, Withdraws, Establishes, GoDown, PutInForce, Now, down, all_down, says, step, after, intended_in, begins, history, holds, sent}
 use Rattle.model.specs.Promise.{At, Whole, Sends}
 use Rattle.route.specs.Same.{same_option}
-use Rattle.model.specs.Updates.{Update, Held, updates, Sent, Begins, Tells, tells, held_after, nothing}
+use Rattle.model.specs.Updates.{Update, Held, Sent, tells, held_after, nothing}
 use Rattle.prefix.specs.Prefix.{number}
-use Rattle.rib.specs.Received.{Received, updated, stored}
+use Rattle.rib.specs.Received.{updated, stored}
 use Rattle.route.specs.Numbers.{is_in}
 use Rattle.route.specs.Route.{Route}
 use Rattle.selection.proofs.Best.{laws as selection}
-use Rattle.selection.specs.Intended.{Rules, Candidate, selected, intended}
-use Rattle.std.proofs.lemmas.Bool.{cases_Bool, cond-true, cond-false, cond_both, both_ways, and_parts, and_from, lt-ltb, ltb-true}
+use Rattle.selection.specs.Intended.{Rules, intended}
+use Rattle.std.proofs.lemmas.Bool.{cond-true, cond_both, both_ways, and_parts, and_from, lt-ltb, ltb-true}
 use Rattle.std.proofs.lemmas.Bool.Decides.{nat_tests as tests}
 
 module _ (z : Size) (rules : Rules) where

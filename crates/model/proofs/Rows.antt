@@ -3,7 +3,7 @@ use Rattle.std.proofs.Common.{◌≡◌, List, [], ◌∷◌, ◌++◌, sym, ref
 use Rattle.model.proofs.Chains.{none, join}
 use Rattle.model.specs.Chain.{Chain}
 use Rattle.model.specs.Model.{Size, Event, Now, sent}
-use Rattle.model.specs.Rows.{then_all, sent_all, KeepsAll, PromisedAll}
+use Rattle.model.specs.Rows.{then_all, sent_all, PromisedAll}
 use Rattle.model.specs.Stands.{Stands, Promised}
 use Rattle.model.specs.Updates.{Update}
 use Rattle.selection.specs.Intended.{Rules}

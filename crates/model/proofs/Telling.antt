@@ -1,6 +1,6 @@
 -- What peers hold after they are told. Assumes nothing.
-use Rattle.std.proofs.Common.{◌≡◌, ℕ, zero, suc, ◌<◌, ◌≤◌, Bool, true, false, cond, ◌&&◌, ◌||◌, eqb, ltb, List, [], ◌∷◌, ◌++◌, Some, None, Option, sym, refl, ap, ◌∙◌, subst, ⊎_elim, append_assoc, append-nil, arith}
-use Rattle.model.proofs.Equality.{option_equal, option_same}
+use Rattle.std.proofs.Common.{◌≡◌, ℕ, zero, suc, Bool, true, false, cond, ◌&&◌, eqb, ltb, List, [], ◌∷◌, ◌++◌, Option, sym, refl, ap, ◌∙◌, subst, ⊎_elim, arith}
+use Rattle.model.proofs.Equality.{option_equal}
 use Rattle.route.specs.Same.{same_option}
 use Rattle.model.specs.Updates.{Update, Held, tell_if, row, updates, Sent, Begins, Tells, tells, follows, held_after}
 use Rattle.route.specs.Route.{Route}

@@ -1,6 +1,6 @@
 -- The route server as it should be: what it goes by after events, and what it sends. Assumes nothing.
-use Rattle.std.specs.Prelude.{ℕ, zero, suc, Bool, true, false, cond, ◌&&◌, List, [], ◌∷◌, ◌++◌, Some, None, Option, ◌==◌, nat_le, nat_lt}
-use Rattle.model.specs.Updates.{Update, Held, updates, Sent, Begins, Tells, tells, held_after, nothing}
+use Rattle.std.specs.Prelude.{ℕ, Bool, true, false, cond, ◌&&◌, List, [], ◌∷◌, ◌++◌, Some, None, Option, ◌==◌, nat_le, nat_lt}
+use Rattle.model.specs.Updates.{Update, Held, updates, Sent, Begins, tells, held_after, nothing}
 use Rattle.policy.specs.Policy.{Policy}
 use Rattle.prefix.specs.Prefix.{number}
 use Rattle.rib.specs.Received.{Received, updated, cleared, stored}

@@ -1,5 +1,5 @@
 -- What is promised of the whole. Assumes nothing.
-use Rattle.std.specs.Prelude.{◌≡◌, ℕ, ◌<◌, ◌≤◌, true, false, not, List, [], ◌∷◌, ◌++◌, length, Some, ◌≢◌, slice_index_or}
+use Rattle.std.specs.Prelude.{◌≡◌, ℕ, ◌<◌, ◌≤◌, true, false, List, ◌∷◌, ◌++◌, length, Some, ◌≢◌, slice_index_or}
 use Rattle.model.specs.Model.{Size, Event, Announces, Withdraws, after, intended_in, history, holds, sent}
 use Rattle.route.specs.Same.{same_option}
 use Rattle.model.specs.Updates.{Update, Sent, Tells, held_after, nothing, in_order}

@@ -1,7 +1,7 @@
 -- After which events a server's state stands, and what an event must do to it. Assumes nothing.
-use Rattle.std.specs.Prelude.{◌≡◌, ℕ, ◌<◌, ◌≤◌, true, false, List, [], ◌∷◌, None}
+use Rattle.std.specs.Prelude.{◌≡◌, ℕ, ◌<◌, ◌≤◌, false, List, ◌∷◌, None}
 use Rattle.model.specs.Chain.{Chain}
-use Rattle.model.specs.Model.{Size, Event, Now, step, after, intended_in, begins, news, sent}
+use Rattle.model.specs.Model.{Size, Event, Now, step, after, intended_in, begins, sent}
 use Rattle.model.specs.Promise.{Whole, Sends}
 use Rattle.model.specs.Updates.{Update, Held, updates, held_after}
 use Rattle.rib.specs.Received.{most_peers, stored}

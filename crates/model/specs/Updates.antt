@@ -1,5 +1,5 @@
 -- What is told to peers, in which order, and what a peer then holds. Assumes nothing.
-use Rattle.std.specs.Prelude.{ℕ, zero, suc, Bool, true, false, cond, ◌&&◌, ◌||◌, List, [], ◌∷◌, ◌++◌, Some, None, Option, ◌==◌, nat_lt}
+use Rattle.std.specs.Prelude.{ℕ, zero, suc, Bool, true, cond, ◌&&◌, ◌||◌, List, [], ◌∷◌, ◌++◌, None, Option, ◌==◌, nat_lt}
 use Rattle.route.specs.Same.{same_option}
 use Rattle.route.specs.Route.{Route}
 

@@ -1,13 +1,12 @@
 -- What is true of every policy. Assumes nothing.
-use Rattle.std.proofs.Common.{◌≡◌, ℕ, zero, suc, ◌<◌, ◌≤◌, Bool, true, false, cond, ◌&&◌, leb, List, [], ◌∷◌, ◌++◌, length, get_or, Some, None, sym, refl, ap, ◌∙◌, subst, arith}
+use Rattle.std.proofs.Common.{◌≡◌, ℕ, zero, suc, ◌<◌, ◌≤◌, Bool, true, false, cond, ◌&&◌, leb, List, [], ◌∷◌, ◌++◌, length, get_or, Some, None, refl, ap, ◌∙◌, subst, arith}
 use Rattle.std.proofs.lemmas.Bool.{leb-true, eq-eqb, or_left, or_right}
-use Rattle.std.proofs.lemmas.Bool.Decides.{nat_tests}
 use Rattle.prefix.specs.Prefix.{Prefix}
 use Rattle.route.proofs.Members.{laws as rows}
 use Rattle.route.specs.Numbers.{insert, without, rising, prepended}
 use Rattle.route.specs.Route.{Route, Formed, with_path, with_communities}
 use Rattle.policy.specs.Laws.{PolicyLaws, Lengthened, prepended_by, prepends}
-use Rattle.policy.specs.Policy.{Condition, Part, part_holds, holds, Action, Accept, Reject, SetLocalPref, SetMed, AddCommunity, RemoveCommunity, Prepend, act, Clause, clause_step, Policy, Verdict, Accepted, Rejected, Step, Decided, GoesOn, and_then, through, at_end, verdict, accepted, evaluate}
+use Rattle.policy.specs.Policy.{Condition, holds, Action, Accept, Reject, SetLocalPref, SetMed, AddCommunity, RemoveCommunity, Prepend, act, Clause, clause_step, Policy, Verdict, Accepted, Rejected, Step, Decided, GoesOn, and_then, through, at_end, verdict, accepted, evaluate}
 
 regroup : (x : Step) (f g h : Route → Step) → ((r : Route) → h r ≡ and_then (f r) g) → and_then x h ≡ and_then (and_then x f) g
 regroup (Decided v) f g h e = refl

@@ -1,5 +1,5 @@
 -- What the code's policies stand for. Assumes nothing.
-use Rattle.std.specs.Prelude.{ℕ, zero, suc, Bool, List, [], ◌∷◌, map, take}
+use Rattle.std.specs.Prelude.{ℕ, zero, suc, List, [], ◌∷◌, map, take}
 use Rattle.prefix.specs.Meant.{meant}
 use Rattle.prefix.specs.Prefix.{Prefix}
 use Rattle.prefix.specs.declared.Prefix.{Prefix as StoredPrefix}

@@ -1,12 +1,12 @@
 -- One step of each recursion, Assumes nothing.
-use Rattle.std.specs.Prelude.{◌≡◌, ℕ, ◌+◌, ◌-◌, ◌<◌, ◌≤◌, min, true, false, ◌&&◌, ◌||◌, List, [], ◌∷◌, ◌++◌, map, length, take, slice_index, slice_index_or, slice_range, slice_set}
+use Rattle.std.specs.Prelude.{◌≡◌, ℕ, ◌+◌, ◌<◌, ◌≤◌, min, true, false, ◌&&◌, ◌||◌, List, [], ◌∷◌, ◌++◌, map, length, take, slice_index, slice_index_or, slice_range, slice_set}
 use Rattle.prefix.specs.Meant.{meant}
 use Rattle.prefix.specs.Prefix.{Prefix, same, within}
 use Rattle.prefix.specs.declared.Prefix.{Prefix as StoredPrefix}
 use Rattle.route.specs.Route.{Route}
 use Rattle.policy.specs.declared.PrefixList.{PrefixList}
 use Rattle.policy.specs.Meant.{prefixes_of, list_at}
-use Rattle.policy.specs.Policy.{is_listed, is_covered, Part, part_holds, holds, Clause, clause_step, and_then, Step, GoesOn, through}
+use Rattle.policy.specs.Policy.{is_listed, is_covered, Part, part_holds, holds, Clause, clause_step, and_then, GoesOn, through}
 use Rattle.policy.specs.Starts.{Lowered, Starts, bucket_of, first_bucket, last_bucket}
 
 -- looking for a prefix in a list

@@ -5,7 +5,7 @@ use Rattle.std.proofs.lemmas.Nat.{pow_below, pow_pos, shr-shr, shr_split, div-mu
 use Rattle.std.proofs.lemmas.Bool.{and_from, cases_lt, eqb-true, eq-eqb, le-leb}
 use Rattle.std.proofs.lemmas.Bool.Decides.{nat_tests}
 use Rattle.prefix.specs.Laws.{Equal, Contained, Reflexive, Transitive, Whole}
-use Rattle.prefix.specs.Prefix.{is_prefix, same}
+use Rattle.prefix.specs.Prefix.{is_prefix}
 
 pub equal : Equal
 equal p q = (λ h. (let at : p.address ≡ q.address = grind (arith, nat_tests) in let long : p.length ≡ q.length = grind (arith, nat_tests) in λ i. record { address = at i; length = long i }), λ e. grind (arith, nat_tests))

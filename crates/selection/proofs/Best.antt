@@ -1,12 +1,12 @@
 -- The best route, and what is exported of it. Assumes nothing.
-use Rattle.std.proofs.Common.{◌≡◌, ℕ, zero, suc, ◌+◌, ◌<◌, ◌≤◌, Bool, true, false, cond, not, ◌&&◌, ◌||◌, eqb, ltb, leb, ◌⊎◌, List, [], ◌∷◌, ◌++◌, length, Some, None, Option, sym, refl, ap, ◌∙◌, subst, inl, inr, ⊎_elim, arith}
+use Rattle.std.proofs.Common.{◌≡◌, ℕ, zero, suc, ◌<◌, ◌≤◌, Bool, true, false, cond, not, ◌&&◌, ◌||◌, eqb, ltb, leb, ◌∷◌, length, Some, None, Option, sym, refl, ap, ◌∙◌, subst, ⊎_elim, arith}
 use Rattle.policy.proofs.Verdicts.{laws as policies}
 use Rattle.policy.specs.Laws.{Lengthened}
-use Rattle.policy.specs.Policy.{Policy, evaluate}
+use Rattle.policy.specs.Policy.{evaluate}
 use Rattle.rib.specs.Received.{Received}
 use Rattle.route.specs.Numbers.{is_in}
 use Rattle.route.specs.Route.{Route, Formed, with_path, with_local_pref, with_med}
-use Rattle.selection.specs.Intended.{Rules, unless_ring, imported_by, imported, Candidate, Rank, rank, outranks, better, or_better, selected, offered, unpreferred, exported_to, exported, intended}
+use Rattle.selection.specs.Intended.{Rules, unless_ring, imported, Candidate, outranks, better, or_better, selected, offered, unpreferred, exported_to, exported, intended}
 use Rattle.selection.specs.Laws.{IsBest, SameButImport, SelectionLaws}
 use Rattle.std.proofs.lemmas.Bool.{leb-true, eqb-false, both_ways, cases_Bool, cases_eq, cond-true, cond-false}
 use Rattle.std.proofs.lemmas.Bool.Decides.{nat_tests}

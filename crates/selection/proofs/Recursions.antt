@@ -1,8 +1,8 @@
 -- The steps of the recursions. Assumes nothing.
-use Rattle.std.proofs.Common.{◌≡◌, ℕ, zero, suc, ◌+◌, ◌<◌, ◌≤◌, Bool, true, false, cond, List, ◌∷◌, Some, None, Option, sym, refl, ap, ◌∙◌, ⊎_elim, add-one, arith}
+use Rattle.std.proofs.Common.{◌≡◌, ℕ, zero, suc, ◌<◌, ◌≤◌, Bool, false, cond, None, sym, refl, ap, ◌∙◌, ⊎_elim, add-one, arith}
 use Rattle.rib.specs.Received.{Received, heard}
 use Rattle.route.specs.Numbers.{prepended}
-use Rattle.selection.specs.Intended.{Rules, Candidate, imported, or_better, selected}
+use Rattle.selection.specs.Intended.{Rules, imported, or_better, selected}
 use Rattle.selection.specs.Steps.{OnceSteps, SelectSteps}
 use Rattle.std.proofs.lemmas.Bool.{cases_lt, cond_both, cond-true}
 

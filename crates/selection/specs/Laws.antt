@@ -1,5 +1,5 @@
 -- What selection and export come to, in plain words. Assumes nothing.
-use Rattle.std.specs.Prelude.{◌≡◌, ℕ, ◌<◌, true, false, not, List, ◌∷◌, Some, None, Option, ◌≢◌}
+use Rattle.std.specs.Prelude.{◌≡◌, ℕ, ◌<◌, true, false, not, ◌∷◌, Some, None, Option, ◌≢◌}
 use Rattle.policy.specs.Laws.{Lengthened}
 use Rattle.rib.specs.Received.{Received}
 use Rattle.route.specs.Numbers.{is_in}

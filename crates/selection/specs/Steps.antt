@@ -1,8 +1,8 @@
 -- One step of each recursion. Assumes nothing.
-use Rattle.std.specs.Prelude.{◌≡◌, ℕ, ◌+◌, ◌≤◌, Bool, true, false, List, ◌∷◌, Some, None, Option}
+use Rattle.std.specs.Prelude.{◌≡◌, ℕ, ◌+◌, ◌≤◌, Bool, true, false, List, ◌∷◌, None}
 use Rattle.rib.specs.Received.{Received, Silent, heard}
 use Rattle.route.specs.Numbers.{prepended}
-use Rattle.selection.specs.Intended.{Rules, Candidate, imported, or_better, selected}
+use Rattle.selection.specs.Intended.{Rules, imported, or_better, selected}
 
 -- a network put in front once
 pub record OnceSteps : Type 0 where

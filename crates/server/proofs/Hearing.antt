@@ -1,12 +1,12 @@
 -- What is heard. Assumes nothing.
-use Rattle.std.proofs.Common.{◌≡◌, ℕ, Bool, true, false, cond, None, sym, refl, ap, ◌∙◌, subst}
+use Rattle.std.proofs.Common.{◌≡◌, ℕ, Bool, false, cond, None, refl, ap, subst}
 use Rattle.rib.specs.Received.{Received, heard}
 use Rattle.selection.proofs.Best.{same_selected}
-use Rattle.selection.specs.Intended.{Rules, selected}
+use Rattle.selection.specs.Intended.{Rules}
 use Rattle.server.specs.Facts.{SelectedHeard, SameSilence, nobody, everybody}
 use Rattle.telling.specs.Steps.{intended_by}
 use Rattle.model.specs.Chain.{Chain}
-use Rattle.model.specs.Updates.{Update, row, updates}
+use Rattle.model.specs.Updates.{Update}
 use Rattle.model.proofs.Lifting.{row_cong, updates_cong}
 use Rattle.prefix.specs.Prefix.{count}
 use Rattle.selection.specs.Intended.{exported}

@@ -1,11 +1,10 @@
 -- From the inner steps to the promise, for the parts of a server. Assumes nothing.
-use Rattle.std.proofs.Common.{◌≡◌, ℕ, ◌<◌, ◌≤◌, Bool, true, false, cond, not, ◌&&◌, eqb, ltb, leb, List, [], Some, None, Option, sym, refl, ap, ◌∙◌, subst, arith}
+use Rattle.std.proofs.Common.{◌≡◌, ℕ, ◌<◌, ◌≤◌, Bool, true, false, cond, ◌&&◌, eqb, ltb, leb, [], None, Option, sym, refl, ap, ◌∙◌, subst, arith}
 use Rattle.model.proofs.Capacity.{stored_more, in_capacity}
 use Rattle.model.proofs.Lifting.{lift}
-use Rattle.model.specs.Chain.{Chain}
-use Rattle.model.specs.Model.{Size, Event, Announces, Withdraws, Establishes, GoDown, PutInForce, Now, says, step, after}
+use Rattle.model.specs.Model.{Event, Establishes, GoDown, PutInForce, Now, says, step, after}
 use Rattle.model.specs.Stands.{Alike, Sound, Stands, Promised}
-use Rattle.model.specs.Updates.{Update, row, updates}
+use Rattle.model.specs.Updates.{Update}
 use Rattle.peers.specs.Members.{is_member}
 use Rattle.peers.specs.declared.PeerSet.{PeerSet}
 use Rattle.policy.specs.Policy.{Policy}
@@ -14,7 +13,7 @@ use Rattle.rib.specs.Received.{Received, updated, is_route, stored, capacity, mo
 use Rattle.route.specs.Route.{Route}
 use Rattle.selection.specs.Meant.{rules_of}
 use Rattle.server.proofs.Steps.{Plain, ignored, stored_all, outside_none, kept_steps, silenced_steps, welcomed_steps, replaced_steps, members_alike, no_room_alike}
-use Rattle.server.specs.Facts.{Kept, Silenced, Welcomed, Replaced, nobody, everybody}
+use Rattle.server.specs.Facts.{Kept, Silenced, Welcomed, Replaced}
 use Rattle.server.specs.Meant.{size_of, now_of, members_below}
 use Rattle.std.proofs.lemmas.Bool.{and_parts, both_ways, cond-false, le-leb, ltb-true, lt-ltb}
 use Rattle.std.proofs.lemmas.Bool.Decides.{nat_tests as tests}

@@ -1,7 +1,7 @@
 -- Updates where only one prefix, or only one peer, can have something new. Assumes nothing.
-use Rattle.std.proofs.Common.{◌≡◌, ℕ, zero, suc, ◌<◌, ◌≤◌, Bool, true, false, cond, List, [], ◌∷◌, ◌++◌, Option, sym, refl, ap, ◌∙◌, subst, ⊎_elim, append-nil, arith}
+use Rattle.std.proofs.Common.{◌≡◌, ℕ, zero, suc, ◌<◌, Bool, true, cond, [], ◌++◌, Option, sym, refl, ap, ◌∙◌, ⊎_elim, append-nil, arith}
 use Rattle.model.proofs.Equality.{option_same}
-use Rattle.model.specs.Updates.{Update, Held, tell_if, row, updates}
+use Rattle.model.specs.Updates.{Held, tell_if, row, updates}
 use Rattle.policy.specs.Policy.{Policy}
 use Rattle.route.specs.Route.{Route}
 use Rattle.route.specs.Same.{same_option}

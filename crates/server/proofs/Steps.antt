@@ -1,21 +1,21 @@
 -- Each inner step is a step of the model. Assumes nothing.
-use Rattle.std.proofs.Common.{◌≡◌, ℕ, zero, suc, ◌+◌, ◌-◌, ◌<◌, ◌≤◌, Bool, true, false, cond, not, ◌&&◌, eqb, ltb, leb, List, [], ◌∷◌, Some, None, Option, sym, refl, ap, ◌∙◌, subst, ⊎_elim, arith}
-use Rattle.model.proofs.Capacity.{stored_more, cleared_stored}
+use Rattle.std.proofs.Common.{◌≡◌, ℕ, zero, suc, ◌+◌, ◌-◌, ◌<◌, ◌≤◌, Bool, true, false, cond, not, ◌&&◌, eqb, ltb, leb, [], ◌∷◌, None, Option, sym, refl, ap, ◌∙◌, subst, ⊎_elim, arith}
+use Rattle.model.proofs.Capacity.{stored_more}
 use Rattle.model.proofs.Lifting.{row_cong, updates_cong}
 use Rattle.model.specs.Chain.{Chain}
-use Rattle.model.specs.Model.{Size, Event, Announces, Withdraws, Establishes, GoDown, PutInForce, Now, at, down, all_down, says, step, intended_in, begins}
+use Rattle.model.specs.Model.{Size, Event, Establishes, PutInForce, Now, down, all_down, says, step, intended_in, begins}
 use Rattle.model.specs.Stands.{Alike, Sound, held_before, Steps}
-use Rattle.model.specs.Updates.{Update, Held, row, updates, held_after}
+use Rattle.model.specs.Updates.{Update, row, updates, held_after}
 use Rattle.policy.specs.Policy.{Policy}
 use Rattle.prefix.specs.Prefix.{count}
-use Rattle.rib.specs.Received.{Received, Same, updated, cleared, heard, is_route, count_of, stored, capacity, most_peers}
+use Rattle.rib.specs.Received.{Received, updated, heard, is_route, count_of, stored, capacity, most_peers}
 use Rattle.route.specs.Route.{Route}
 use Rattle.selection.proofs.Best.{laws as selection}
-use Rattle.selection.specs.Intended.{Rules, Candidate, offered, selected, exported_to, intended}
+use Rattle.selection.specs.Intended.{Rules, offered, selected, intended}
 use Rattle.server.proofs.Rows.{updates_none, updates_of_prefix, updates_to_peer}
-use Rattle.server.specs.Facts.{Kept, Silenced, Welcomed, Replaced, nobody, everybody}
+use Rattle.server.specs.Facts.{Kept, nobody, everybody}
 use Rattle.server.specs.Meant.{size_of, members_below}
-use Rattle.std.proofs.lemmas.Bool.{cases_Bool, cases_eq, cases_lt, cond-true, cond-false, cond_both, and_from, lt-ltb, le-leb, leb-true, both_ways, eq-eqb, ne_eqb}
+use Rattle.std.proofs.lemmas.Bool.{cases_Bool, cases_eq, cases_lt, cond-true, cond-false, and_from, lt-ltb, leb-true, both_ways, eq-eqb, ne_eqb}
 use Rattle.std.proofs.lemmas.Bool.Decides.{nat_tests as tests}
 use Rattle.telling.proofs.Chains.{nothing_intended}
 use Rattle.telling.specs.Steps.{of_prefix, intended_by}

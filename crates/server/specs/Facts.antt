@@ -1,10 +1,9 @@
 -- What the inner steps of the server do, entry by entry. Assumes nothing.
-use Rattle.std.specs.Prelude.{◌≡◌, ℕ, ◌<◌, ◌≤◌, Bool, true, false, cond, not, ◌&&◌, List, [], None, Option, ◌==◌, nat_lt}
+use Rattle.std.specs.Prelude.{◌≡◌, ℕ, Bool, false, cond, not, ◌&&◌, None, Option, ◌==◌, nat_lt}
 use Rattle.model.specs.Chain.{Chain}
-use Rattle.model.specs.Updates.{Update, Held, row, updates}
-use Rattle.policy.specs.Policy.{Policy}
+use Rattle.model.specs.Updates.{Update, row, updates}
 use Rattle.prefix.specs.Prefix.{count}
-use Rattle.rib.specs.Received.{Received, Same, updated, heard, capacity, most_peers, stored}
+use Rattle.rib.specs.Received.{Received, Same, updated, heard, most_peers}
 use Rattle.route.specs.Route.{Route}
 use Rattle.selection.specs.Intended.{Rules, offered, selected}
 use Rattle.telling.specs.Steps.{of_prefix, intended_by}

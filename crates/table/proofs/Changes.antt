@@ -1,8 +1,8 @@
 -- What a table holds, and what each change makes of it. Assumes nothing.
-use Rattle.std.proofs.Common.{◌≡◌, ℕ, zero, suc, ◌+◌, ◌*◌, ◌/◌, ◌%◌, ◌<◌, ◌≤◌, Bool, true, false, cond, ◌&&◌, eqb, ltb, List, [], ◌∷◌, length, get_or, set, Some, None, Option, sym, refl, ap, ◌∙◌, subst, ⊎_elim, arith, length-set}
+use Rattle.std.proofs.Common.{◌≡◌, ℕ, ◌+◌, ◌*◌, ◌/◌, ◌%◌, ◌<◌, ◌≤◌, true, cond, ◌&&◌, eqb, ltb, List, [], ◌∷◌, length, get_or, set, Some, None, Option, sym, refl, ap, ◌∙◌, subst, ⊎_elim, arith, length-set}
 use Rattle.prefix.specs.Meant.{meant}
 use Rattle.prefix.specs.Prefix.{count, number}
-use Rattle.rib.specs.Received.{Announced, Received, Same, cleared, is_route, most_peers, stored, updated}
+use Rattle.rib.specs.Received.{Received, Same, is_route, most_peers, stored, updated}
 use Rattle.route.specs.Meant.{route_of}
 use Rattle.route.specs.Route.{Route}
 use Rattle.route.specs.declared.Route.{Route as Stored}

@@ -1,5 +1,5 @@
 -- What the code of the table leans on. Assumes nothing.
-use Rattle.std.specs.Prelude.{◌≡◌, ℕ, ◌+◌, ◌*◌, ◌/◌, ◌%◌, ◌<◌, ◌≤◌, true, false, List, [], ◌∷◌, ◌++◌, length, take, drop, Some, None, ◌≢◌, slice_index, slice_index_or, slice_set}
+use Rattle.std.specs.Prelude.{◌≡◌, ℕ, ◌+◌, ◌*◌, ◌%◌, ◌<◌, ◌≤◌, true, List, [], ◌++◌, length, take, drop, Some, None, ◌≢◌, slice_index, slice_index_or, slice_set}
 use Rattle.prefix.specs.Meant.{meant}
 use Rattle.prefix.specs.Prefix.{count, number}
 use Rattle.rib.specs.Received.{Announced, Same, Silent, Unannounced, capacity, cleared, is_route, most_peers, stored, updated}

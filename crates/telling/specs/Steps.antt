@@ -1,5 +1,5 @@
 -- What telling one peer of one prefix, and going on, makes of what was sent. Assumes nothing.
-use Rattle.std.specs.Prelude.{◌≡◌, ℕ, zero, suc, ◌+◌, ◌<◌, ◌≤◌, Bool, true, false, cond, List, [], ◌∷◌, ◌++◌, Option}
+use Rattle.std.specs.Prelude.{◌≡◌, ℕ, zero, suc, ◌+◌, ◌≤◌, Bool, true, false, cond, List, [], ◌++◌, Option}
 use Rattle.model.specs.Chain.{Chain}
 use Rattle.model.specs.Updates.{Update, Held, tell_if, row, updates}
 use Rattle.rib.specs.Received.{Received, Unannounced, heard}

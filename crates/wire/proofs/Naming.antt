@@ -1,11 +1,11 @@
 -- The prefixes of a part of a message, by its first piece. Assumes nothing.
-use Rattle.std.proofs.Common.{◌≡◌, ℕ, ◌+◌, ◌/◌, ◌<◌, ◌≤◌, Bool, true, false, cond, not, ◌||◌, List, [], ◌∷◌, length, take, drop, sym, refl, ap, ◌∙◌, arith, length-drop}
+use Rattle.std.proofs.Common.{◌≡◌, ℕ, ◌<◌, ◌≤◌, Bool, true, false, cond, not, ◌||◌, List, [], ◌∷◌, length, take, drop, sym, ap, ◌∙◌, arith, length-drop}
 use Rattle.std.proofs.lemmas.List.{nil_from_length}
 use Rattle.std.proofs.lemmas.Bool.{cond-true, cond-false}
 use Rattle.std.proofs.lemmas.Bool.Decides.{nat_tests}
 use Rattle.wire.specs.Nlri.{prefix_size, holds_prefix, prefix_of, prefixes_of, named, has_no_prefix, checked_after}
 use Rattle.wire.specs.declared.nlri.Check.TheVariants.{Overrun, SomeInvalid, Valid}
-use Rattle.wire.specs.Pieces.{pieces, overruns, some}
+use Rattle.wire.specs.Pieces.{overruns, some}
 use Rattle.wire.specs.Steps.{PieceSteps, CheckSteps, NamedSteps}
 use Rattle.wire.proofs.Cuts.{piece_steps}
 

@@ -1,6 +1,5 @@
 -- One step of each recursion over a row of bytes. Assumes nothing.
 use Rattle.std.specs.Prelude.{◌≡◌, ℕ, ◌-◌, ◌<◌, ◌≤◌, Bool, true, false, cond, not, ◌||◌, List, [], ◌∷◌, length, take, drop, slice_index}
-use Rattle.prefix.specs.Prefix.{Prefix}
 use Rattle.wire.specs.Nlri.{prefix_size, holds_prefix, prefix_of, named, checked_after}
 use Rattle.wire.specs.declared.nlri.Check.TheVariants.{Overrun, SomeInvalid, Valid}
 use Rattle.wire.specs.Pieces.{pieces, overruns}

@@ -1,4 +1,4 @@
-use Rattle.std.proofs.Common.{false, cond, ltb, ◌∙◌, arith}
+use Rattle.std.proofs.Common.{false, arith}
 use Rattle.std.proofs.lemmas.Bool.Decides.{nat_tests}
 use Rattle.peers.proofs.Flags.{filled}
 use Rattle.peers.proofs.PeerSet.none.Goals as goal

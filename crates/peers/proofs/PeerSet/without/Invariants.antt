@@ -1,4 +1,4 @@
-use Rattle.std.proofs.Common.{◌≡◌, ℕ, false, cond, not, ◌&&◌, ltb}
+use Rattle.std.proofs.Common.{◌≡◌, ℕ, not, ◌&&◌, ltb}
 use Rattle.peers.specs.Members.{is_member}
 use Rattle.peers.proofs.PeerSet.without.Given as goal
 

@@ -1,4 +1,3 @@
-use Rattle.std.proofs.Common.{◌≤◌}
 use Rattle.prefix.specs.Meant.{meant}
 use Rattle.policy.specs.Starts.{Lowered, first_bucket}
 use Rattle.policy.proofs.starts.lower_starts.Given as goal

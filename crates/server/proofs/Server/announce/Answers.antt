@@ -1,4 +1,4 @@
-use Rattle.std.proofs.Common.{◌≡◌, true, false, Some, sym, refl, ◌∙◌}
+use Rattle.std.proofs.Common.{true, false, Some, sym, refl, ◌∙◌}
 use Rattle.model.specs.Model.{Announces}
 use Rattle.peers.specs.Members.{is_member}
 use Rattle.prefix.proofs.Order.{bounded}

@@ -1,4 +1,4 @@
-use Rattle.std.proofs.Common.{◌≡◌, ◌≤◌, ◌++◌, length, take, drop}
+use Rattle.std.proofs.Common.{◌≡◌, ◌≤◌, ◌++◌, take, drop}
 use Rattle.table.specs.Table.{kept_keys, kept_routes}
 use Rattle.table.proofs.vecs.move_to_front.Given as goal
 
