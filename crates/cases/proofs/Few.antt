@@ -1,18 +1,17 @@
 -- What is sent where all announcements are of a few prefixes. Assumes nothing.
-use Rattle.std.proofs.Common.{◌≡◌, ℕ, zero, suc, ◌+◌, ◌<◌, ◌≤◌, Bool, true, false, cond, ◌&&◌, ◌||◌, eqb, ltb, leb, List, [], ◌∷◌, ◌++◌, Some, None, Option, sym, refl, ap, ◌∙◌, subst, ⊎_elim, arith}
+use Rattle.std.proofs.Common.{◌≡◌, ℕ, zero, suc, ◌<◌, ◌≤◌, Bool, true, false, cond, ◌&&◌, eqb, ltb, List, [], ◌∷◌, ◌++◌, Some, None, Option, sym, refl, ap, ◌∙◌, ⊎_elim, arith}
 use Rattle.cases.proofs.Room.{free_after, room_before}
-use Rattle.cases.specs.Few.{place, says_freely, step_freely, freely, announcements, all_of, falling, row_of, updates_of, sent_of, OfFew}
+use Rattle.cases.specs.Few.{place, says_freely, freely, announcements, all_of, falling, row_of, updates_of, OfFew}
 use Rattle.model.proofs.Lifting.{updates_cong}
 use Rattle.model.proofs.Promises.{exact}
 use Rattle.model.proofs.Telling.{held_append}
-use Rattle.model.specs.Model.{Size, Event, Announces, Withdraws, Establishes, GoDown, PutInForce, Now, all_down, after, intended_in, begins, history, holds, news, sent}
+use Rattle.model.specs.Model.{Size, Event, Announces, Withdraws, Establishes, GoDown, PutInForce, Now, all_down, intended_in, begins, history, holds, news, sent}
 use Rattle.model.specs.Stands.{held_before}
-use Rattle.model.specs.Updates.{Update, Held, tell_if, row, updates, held_after, nothing}
-use Rattle.rib.specs.Received.{Received, updated, cleared}
+use Rattle.model.specs.Updates.{Held, tell_if, row, updates, held_after, nothing}
 use Rattle.route.specs.Numbers.{is_in}
 use Rattle.route.specs.Route.{Route}
 use Rattle.selection.specs.Intended.{Rules}
-use Rattle.std.proofs.lemmas.Bool.{cases_Bool, cond-true, cond-false, cond_both, and_parts, and_from, or_parts, or_from, ltb-true, ne_eqb, both_ways, eqb-true}
+use Rattle.std.proofs.lemmas.Bool.{cases_Bool, cond-true, cond-false, cond_both, and_parts, or_from, ltb-true, ne_eqb, both_ways, eqb-true}
 use Rattle.std.proofs.lemmas.Bool.Decides.{nat_tests as tests}
 use Rattle.telling.proofs.Chains.{nothing_intended, row_skips}
 

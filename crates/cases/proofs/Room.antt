@@ -1,14 +1,14 @@
 -- Where there is room for all announcements, nobody need ask whether there is. Assumes nothing.
-use Rattle.std.proofs.Common.{◌≡◌, ℕ, zero, suc, ◌+◌, ◌-◌, ◌*◌, ◌/◌, ◌%◌, ◌^◌, ◌<◌, ◌≤◌, Bool, true, false, cond, ◌&&◌, eqb, ltb, leb, List, [], ◌∷◌, Some, None, Option, sym, refl, ap, ◌∙◌, subst, ⊎_elim, pow-suc, arith}
+use Rattle.std.proofs.Common.{◌≡◌, ℕ, zero, suc, ◌+◌, ◌-◌, ◌*◌, ◌/◌, ◌%◌, ◌^◌, ◌<◌, ◌≤◌, Bool, true, cond, ◌&&◌, eqb, ltb, leb, List, [], ◌∷◌, Some, None, Option, sym, refl, ap, ◌∙◌, subst, ⊎_elim, pow-suc, arith}
 use lib.Count.{ones, ones_in, ones_step}
-use Rattle.cases.specs.Few.{place, says_freely, step_freely, freely, announcements}
+use Rattle.cases.specs.Few.{place, says_freely, freely, announcements}
 use Rattle.model.proofs.Capacity.{count_more, stored_more, cleared_stored, in_capacity}
 use Rattle.model.specs.Model.{Size, Event, Announces, Withdraws, Establishes, GoDown, PutInForce, Now, down, all_down, says, step, after}
 use Rattle.prefix.specs.Prefix.{Prefix, number}
-use Rattle.rib.specs.Received.{Received, updated, cleared, is_route, count_of, stored}
+use Rattle.rib.specs.Received.{Received, updated, is_route, count_of, stored}
 use Rattle.route.specs.Route.{Route}
 use Rattle.selection.specs.Intended.{Rules}
-use Rattle.std.proofs.lemmas.Bool.{cases_Bool, cases_eq, cond-true, cond-false, cond_both, le-leb, ltb-true}
+use Rattle.std.proofs.lemmas.Bool.{cases_eq, cond-true, cond_both, le-leb, ltb-true}
 use Rattle.std.proofs.lemmas.Bool.Decides.{nat_tests as tests}
 
 -- both count the same bits

@@ -1,14 +1,14 @@
 -- The rows of the table, each worked out from the few prefixes that it speaks of. Assumes nothing.
-use Rattle.std.proofs.Common.{◌≡◌, ℕ, ◌≤◌, true, leb, List, [], ◌∷◌, ◌++◌, map, reverse, sym, refl, ◌∙◌}
+use Rattle.std.proofs.Common.{◌≡◌, ℕ, true, leb, List, ◌∷◌, map, reverse, sym, refl, ◌∙◌}
 use lib.Count.{ones_in}
 use Rattle.cases.proofs.Few.{of_few}
 use Rattle.cases.proofs.Room.{placed}
 use Rattle.cases.specs.Cases.{Advertised, update_by, Case, rules, Holds, AllHold, eight, nine, case_a, case_b, case_c, case_d, case_e, case_f, case_g, barred, comes_back, other_best, repeated, WorkedCases}
 use Rattle.cases.specs.Few.{place, freely, announcements, all_of, falling, row_of, updates_of, sent_of}
-use Rattle.model.specs.Model.{Event, all_down}
-use Rattle.model.specs.Updates.{Update, held_after}
+use Rattle.model.specs.Model.{all_down}
+use Rattle.model.specs.Updates.{held_after}
 use Rattle.policy.specs.Policy.{is_listed, holds, through}
-use Rattle.prefix.specs.Prefix.{Prefix, number}
+use Rattle.prefix.specs.Prefix.{number}
 use Rattle.route.specs.Numbers.{is_in}
 use Rattle.route.specs.Same.{same_row}
 use Rattle.selection.specs.Intended.{selected}

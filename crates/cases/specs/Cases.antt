@@ -1,5 +1,5 @@
 -- Worked cases: what an event sends, after the events before it. Assumes nothing.
-use Rattle.std.specs.Prelude.{◌≡◌, ℕ, ◌+◌, ◌*◌, true, false, List, [], ◌∷◌, ◌++◌, map, replicate, Some, None, Option}
+use Rattle.std.specs.Prelude.{◌≡◌, ℕ, ◌+◌, ◌*◌, false, List, [], ◌∷◌, ◌++◌, map, replicate, Some, None, Option}
 use Rattle.model.specs.Model.{Event, Announces, Establishes, GoDown, PutInForce, at, sent}
 use Rattle.model.specs.Updates.{Update}
 use Rattle.policy.specs.Policy.{Test, Any, PrefixIn, Passes, HasCommunity, Action, Accept, Reject, SetLocalPref, Clause, Policy}

@@ -1,5 +1,4 @@
 -- The header of a message, and an OPEN as a whole. Assumes nothing.
-use Rattle.std.proofs.Common.{◌≡◌, true, false, ◌&&◌}
 use Rattle.message.specs.Header.{are_ones, kind_of}
 use Rattle.message.specs.Open.{read_open}
 use Rattle.message.specs.Steps.{OnesSteps, HeaderSteps, OpenSteps}

@@ -1,5 +1,4 @@
 -- What the code's values stand for. Assumes nothing.
-use Rattle.fault.specs.Fault.{code}
 use Rattle.message.specs.Message.{Message, Opens, Updates, Notifies, KeepsAlive}
 use Rattle.message.specs.Open.{Open}
 use Rattle.message.specs.declared.Message.{Message as StoredMessage}

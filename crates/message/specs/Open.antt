@@ -1,5 +1,5 @@
 -- OPEN messages. Behind the header of 19 bytes: the version, the network in 2 bytes, the hold time in 2, the identifier in 4, the length of the optional parameters, and these; a parameter of type 2 holds capabilities. Assumes nothing.
-use Rattle.std.specs.Prelude.{ℕ, ◌+◌, Bool, true, false, cond, not, ◌&&◌, ◌||◌, List, length, drop, Some, None, Option, ◌==◌, slice_index}
+use Rattle.std.specs.Prelude.{ℕ, ◌+◌, Bool, true, false, cond, ◌&&◌, ◌||◌, List, length, drop, Some, None, Option, ◌==◌, slice_index}
 use Rattle.attributes.specs.AsPath.{Reading, got, fault}
 use Rattle.attributes.specs.Meaning.{Peer}
 use Rattle.wire.specs.Bytes.{u16_of, u32_of}

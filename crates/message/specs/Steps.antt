@@ -1,5 +1,5 @@
 -- One step of each recursion. Assumes nothing.
-use Rattle.std.specs.Prelude.{◌≡◌, ℕ, ◌+◌, ◌-◌, ◌<◌, ◌≤◌, Bool, true, false, ◌&&◌, ◌||◌, List, [], ◌∷◌, length, take, drop, Some, None, Option, ◌==◌, slice_index}
+use Rattle.std.specs.Prelude.{◌≡◌, ℕ, ◌+◌, ◌-◌, ◌<◌, ◌≤◌, Bool, true, false, ◌&&◌, ◌||◌, List, length, take, drop, Some, None, Option, ◌==◌, slice_index}
 use Rattle.attributes.specs.AsPath.{got, fault}
 use Rattle.attributes.specs.Meaning.{Peer}
 use Rattle.message.specs.Header.{are_ones, is_framed, kind_named, kind_number, kind_of}

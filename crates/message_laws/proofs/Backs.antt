@@ -1,7 +1,6 @@
 -- Numbers, prefixes and pieces read back. Assumes nothing.
-use Rattle.std.proofs.Common.{◌≡◌, ℕ, zero, suc, ◌+◌, ◌-◌, ◌*◌, ◌/◌, ◌%◌, ◌^◌, ◌<◌, ◌≤◌, Bool, true, false, cond, not, ◌&&◌, ◌||◌, eqb, ltb, leb, List, [], ◌∷◌, ◌++◌, length, get_or, take, drop, sym, refl, ap, ◌∙◌, subst, arith, length-append}
+use Rattle.std.proofs.Common.{◌≡◌, ℕ, zero, suc, ◌+◌, ◌-◌, ◌*◌, ◌/◌, ◌%◌, ◌^◌, ◌<◌, ◌≤◌, true, false, not, ◌&&◌, ◌||◌, List, [], ◌∷◌, ◌++◌, length, take, drop, sym, refl, ap, ◌∙◌, arith, length-append}
 use Rattle.message_laws.specs.RoundTrip.{Fit}
-use Rattle.message_write.proofs.Puts.{numbers_long}
 use Rattle.message_write.proofs.Sizes.{short, prefix_steps}
 use Rattle.message_write.specs.Written.{numbers_bytes, prefix_bytes}
 use Rattle.prefix.specs.Prefix.{Prefix, is_prefix}

@@ -1,21 +1,21 @@
 -- Of the faults that a message has, the lowest is answered. Assumes nothing.
-use Rattle.std.proofs.Common.{◌≡◌, ℕ, ◌+◌, ◌<◌, ◌≤◌, Bool, true, false, cond, not, ◌&&◌, ◌||◌, eqb, ltb, leb, ◌⊎◌, List, length, get_or, drop, Some, None, Option, sym, refl, ap, ◌∙◌, subst, inl, inr, ⊎_elim, arith}
-use Rattle.attributes.specs.AsPath.{Reading, got, fault}
+use Rattle.std.proofs.Common.{◌≡◌, ℕ, ◌+◌, ◌≤◌, Bool, true, false, cond, ◌&&◌, ◌||◌, eqb, ltb, leb, ◌⊎◌, List, length, get_or, drop, Some, None, sym, refl, ap, ◌∙◌, subst, inl, inr, ⊎_elim, arith}
+use Rattle.attributes.specs.AsPath.{got, fault}
 use Rattle.attributes.specs.Layout.{attribute_size}
 use Rattle.attributes.specs.Meaning.{Peer, no_fault}
 use Rattle.message.specs.Header.{has_marker, has_length, kind_named, kind_number, is_framed, kind_of}
-use Rattle.message.specs.Message.{Message, Opens, Updates, Notifies, KeepsAlive, as_open, as_update, read_as, read_body, read_message}
+use Rattle.message.specs.Message.{as_open, as_update, read_as, read_body, read_message}
 use Rattle.message.specs.Open.{Open, is_asn, is_hold_time, is_offer, offers, parameter_offer, is_open, read_open}
 use Rattle.message.specs.declared.Kind.{Kind}
 use Rattle.message.specs.declared.Kind.TheVariants as a_kind
 use Rattle.message.specs.declared.State.{State}
 use Rattle.message.specs.declared.State.TheVariants.{OpenSent, Established}
-use Rattle.message_laws.specs.HasFault.{HasFault, answered, content_answer, LowestFault}
+use Rattle.message_laws.specs.HasFault.{HasFault, answered, LowestFault}
 use Rattle.message_laws.specs.HasFault.{no_marker, other_length, too_long, wrong_kind, not_awaited, other_version, other_network, other_hold_time, other_end, not_offered, early_update, early_keepalive, parts_over, withdrawn_over, attributes_over, announced_over, twice, malformed, no_prefix_withdrawn, no_prefix_announced, invalid, foreign, lacking}
 use Rattle.std.proofs.lemmas.Bool.Decides.{nat_tests}
 use Rattle.std.proofs.lemmas.Bool.{both_ways, cases_eq}
 use Rattle.update.specs.Sections.{sections_end, withdrawn_in, attributes_in, announced_in}
-use Rattle.update.specs.Update.{Content, Announces, Withdraws, Faulty, Attributes, attributes_of, attributes_said, types_of, announces, repeats, is_malformed, has_malformed, is_invalid, has_invalid, is_foreign, lacks_attribute, runs_over, update_fault, content_of, read_update}
+use Rattle.update.specs.Update.{Announces, Withdraws, Faulty, Attributes, attributes_of, attributes_said, types_of, announces, repeats, has_malformed, has_invalid, is_foreign, lacks_attribute, runs_over, update_fault, content_of, read_update}
 use Rattle.wire.specs.Bytes.{u16_of, u32_of}
 use Rattle.wire.specs.Nlri.{prefix_size, has_no_prefix}
 use Rattle.wire.specs.Pieces.{overruns, some}

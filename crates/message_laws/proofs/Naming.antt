@@ -1,6 +1,6 @@
 -- A part of an UPDATE names just the prefixes that it holds. Assumes nothing.
-use Rattle.std.proofs.Common.{◌≡◌, ℕ, zero, suc, ◌<◌, Bool, true, false, cond, List, [], ◌∷◌, length, get_or, sym, refl, ap, ◌∙◌, subst, arith}
-use Rattle.message_laws.specs.Names.{HeldAt, NamedAt, Names}
+use Rattle.std.proofs.Common.{◌≡◌, ℕ, zero, suc, ◌<◌, Bool, true, false, cond, List, [], ◌∷◌, length, get_or, sym, refl, subst, arith}
+use Rattle.message_laws.specs.Names.{Names}
 use Rattle.prefix.specs.Prefix.{Prefix}
 use Rattle.wire.specs.Nlri.{prefix_size, holds_prefix, prefix_of, prefixes_of, named}
 use Rattle.wire.specs.Pieces.{pieces}

@@ -1,13 +1,11 @@
 -- What is written is read back: headers, and UPDATEs from their parts. Assumes nothing.
-use Rattle.std.proofs.Common.{◌≡◌, ℕ, ◌+◌, ◌-◌, ◌<◌, ◌≤◌, Bool, true, false, cond, not, ◌&&◌, ◌||◌, eqb, ltb, leb, ◌⊎◌, List, [], ◌∷◌, ◌++◌, length, get_or, take, drop, Some, None, Option, sym, refl, ap, ◌∙◌, subst, inl, inr, arith, length-append}
-use Rattle.attributes.specs.AsPath.{Reading, got, fault}
+use Rattle.std.proofs.Common.{◌≡◌, ℕ, ◌+◌, ◌<◌, ◌≤◌, Bool, true, false, cond, not, ◌&&◌, ◌||◌, eqb, ltb, leb, ◌⊎◌, List, [], ◌∷◌, length, None, sym, refl, ap, ◌∙◌, subst, inl, inr, arith}
+use Rattle.attributes.specs.AsPath.{got, fault}
 use Rattle.attributes.specs.Layout.{attribute_size}
 use Rattle.attributes.specs.Meaning.{Peer, no_fault}
-use Rattle.message.specs.Header.{are_ones, has_length, kind_named, kind_number, is_framed, kind_of}
-use Rattle.message.specs.Message.{Message, Opens, Updates, Notifies, KeepsAlive, as_open, as_update, read_as, read_body, read_message}
-use Rattle.message.specs.Open.{Open, is_asn, is_offer, offers, offers_after, parameter_offer, is_open, read_open}
-use Rattle.message.specs.declared.Kind.{Kind}
-use Rattle.message.specs.declared.Kind.TheVariants as a_kind
+use Rattle.message.specs.Header.{are_ones, has_length, kind_named, kind_of}
+use Rattle.message.specs.Message.{Opens, Updates, Notifies, KeepsAlive, as_open, as_update, read_as, read_message}
+use Rattle.message.specs.Open.{is_asn, is_offer, offers, offers_after, parameter_offer, read_open}
 use Rattle.message.specs.declared.State.{State}
 use Rattle.message.specs.declared.State.TheVariants.{OpenSent, Established}
 use Rattle.message_laws.proofs.Backs.{u16_back, u32_back}
@@ -17,7 +15,7 @@ use Rattle.std.proofs.lemmas.Bool.{eq-eqb, le-leb, cases_lt, lt-ltb, le-ltb}
 use Rattle.std.proofs.lemmas.Bool.Decides.{nat_tests}
 use Rattle.route.specs.Numbers.{is_in}
 use Rattle.update.specs.Sections.{sections_end, withdrawn_in, attributes_in, announced_in}
-use Rattle.update.specs.Update.{Content, Announces, Withdraws, Faulty, attributes_of, attributes_said, types_of, announces, repeats, is_malformed, has_malformed, is_invalid, has_invalid, is_foreign, lacks_attribute, runs_over, update_fault, content_of, read_update}
+use Rattle.update.specs.Update.{Content, Announces, Withdraws, Faulty, attributes_of, attributes_said, types_of, announces, has_malformed, is_invalid, is_foreign, lacks_attribute, update_fault, content_of, read_update}
 use Rattle.wire.specs.Bytes.{u16_of, u32_of, bytes16, bytes32}
 use Rattle.wire.specs.Nlri.{prefix_size, has_no_prefix}
 use Rattle.wire.specs.Pieces.{pieces_past, overruns_past, pieces, overruns, some}

@@ -1,7 +1,7 @@
 -- UPDATEs that are written are read back. Assumes nothing.
-use Rattle.std.proofs.Common.{◌≡◌, ℕ, ◌+◌, ◌-◌, ◌*◌, ◌/◌, ◌%◌, ◌<◌, ◌≤◌, Bool, true, false, cond, not, ◌&&◌, ◌||◌, eqb, ltb, leb, ◌⊎◌, List, [], ◌∷◌, ◌++◌, length, get_or, take, drop, sym, refl, ap, ◌∙◌, subst, inl, inr, arith, length-append}
+use Rattle.std.proofs.Common.{◌≡◌, ℕ, ◌+◌, ◌*◌, ◌%◌, ◌<◌, ◌≤◌, Bool, true, false, cond, not, ◌&&◌, ◌||◌, eqb, ltb, leb, ◌⊎◌, List, [], ◌∷◌, ◌++◌, length, get_or, take, drop, sym, refl, ap, ◌∙◌, subst, inl, inr, arith}
 use Rattle.attributes.specs.AsPath.{got, segment_size, asns_in, is_sequence, asns_of_all, path_in, are_sequences, is_path}
-use Rattle.attributes.specs.Layout.{attribute_size, type_of, value_of, has_form}
+use Rattle.attributes.specs.Layout.{attribute_size}
 use Rattle.attributes.specs.Meaning.{Peer}
 use Rattle.message.specs.Message.{Updates, read_message}
 use Rattle.message.specs.declared.State.TheVariants.{Established}
@@ -11,7 +11,7 @@ use Rattle.message_laws.specs.RoundTrip.{Fit, Sendable, Sized, RoundTrip, Sizes}
 use Rattle.message_write.proofs.Messages.{message_long, body_steps}
 use Rattle.message_write.proofs.Puts.{numbers_long}
 use Rattle.message_write.proofs.Sizes.{short, size_steps, attribute_steps, attributes_parts}
-use Rattle.message_write.specs.Written.{header_bytes, message_bytes, numbers_bytes, number_bytes, prefix_bytes, path_bytes, communities_bytes, attributes_bytes, withdrawal_body, withdrawal_bytes, announcement_body, announcement_bytes}
+use Rattle.message_write.specs.Written.{header_bytes, numbers_bytes, number_bytes, prefix_bytes, path_bytes, communities_bytes, attributes_bytes, withdrawal_body, withdrawal_bytes, announcement_body, announcement_bytes}
 use Rattle.prefix.specs.Prefix.{Prefix, is_prefix}
 use Rattle.route.proofs.Members.{laws}
 use Rattle.route.specs.Numbers.{is_in, rising, sorted}
@@ -24,8 +24,8 @@ use Rattle.update.specs.Sections.{withdrawn_length, attributes_length, sections_
 use Rattle.update.specs.Update.{Announces, Withdraws, attributes_said, types_of, repeats, is_malformed, has_malformed, is_invalid, is_foreign, value_at}
 use Rattle.wire.proofs.Cuts.{piece_steps}
 use Rattle.wire.proofs.Naming.{prefix_pieces}
-use Rattle.wire.specs.Bytes.{u16_of, u32_of, bytes16, bytes32, numbers}
-use Rattle.wire.specs.Nlri.{prefix_size, holds_prefix, prefixes_of, named, has_no_prefix}
+use Rattle.wire.specs.Bytes.{u16_of, u32_of, bytes32, numbers}
+use Rattle.wire.specs.Nlri.{holds_prefix, prefixes_of, named}
 use Rattle.wire.specs.Pieces.{pieces, overruns, some}
 use Rattle.wire.specs.Steps.{PieceSteps}
 

@@ -1,12 +1,10 @@
 -- A message is its header and its body. Assumes nothing.
-use Rattle.std.proofs.Common.{◌≡◌, ℕ, ◌+◌, ◌<◌, ◌≤◌, true, false, cond, leb, List, [], ◌∷◌, ◌++◌, length, take, drop, Some, None, sym, refl, ap, ◌∙◌, subst, arith, length-append}
+use Rattle.std.proofs.Common.{◌≡◌, ℕ, ◌+◌, ◌<◌, ◌≤◌, List, [], ◌∷◌, ◌++◌, length, drop, Some, None, sym, refl, ap, ◌∙◌, subst, arith, length-append}
 use Rattle.message_write.proofs.Puts.{join}
 use Rattle.message_write.proofs.Sizes.{attribute_steps}
 use Rattle.message_write.specs.Put.{Put, Wrote}
 use Rattle.message_write.specs.Steps.{MessageSteps, BodySteps}
-use Rattle.message_write.specs.Written.{header_bytes, message_bytes, withdrawal_body, announcement_body, prefix_bytes, attributes_bytes}
-use Rattle.prefix.specs.Prefix.{Prefix}
-use Rattle.route.specs.Route.{Route}
+use Rattle.message_write.specs.Written.{header_bytes, message_bytes, prefix_bytes, attributes_bytes}
 use Rattle.std.proofs.lemmas.List.{take-append-drop}
 use Rattle.std.proofs.lemmas.Bool.{cond-true, cond-false, le-leb, lt-leb}
 

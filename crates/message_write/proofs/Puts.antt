@@ -1,11 +1,11 @@
 -- Parts written one after the other. Assumes nothing.
 use Rattle.std.proofs.Common.{◌≡◌, ℕ, ◌+◌, ◌-◌, ◌*◌, ◌<◌, ◌≤◌, List, [], ◌∷◌, ◌++◌, length, get_or, take, drop, sym, refl, ap, ◌∙◌, subst, arith, length-append, length-drop}
 use borrow.Rule.Slice.PartMut.{put_mid}
-use Rattle.message_write.specs.Put.{Put, Wrote}
+use Rattle.message_write.specs.Put.{Put}
 use Rattle.message_write.specs.Steps.{JoinSteps, NumberSteps, HeaderSteps}
 use Rattle.message_write.specs.Written.{header_bytes, numbers_bytes}
 use Rattle.wire.specs.Bytes.{bytes32}
-use Rattle.std.proofs.lemmas.List.{append_assoc, append-nil, take_all, take_more, length-take-le, take_at, drop_at, drop-drop, take-append-drop}
+use Rattle.std.proofs.lemmas.List.{append_assoc, append-nil, take_all, take_more, length-take-le, take_at, drop_at, drop-drop}
 
 module _ (place end : ℕ) (bytes before after : List ℕ) (e : end ≡ place + length bytes) (h : end ≤ length before) (a : after ≡ take place before ++ (bytes ++ drop end before)) where
   first : length (take place before ++ bytes) ≡ end

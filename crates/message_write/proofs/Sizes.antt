@@ -1,9 +1,8 @@
 -- The bytes of prefixes and attributes, and how many there are. Assumes nothing.
-use Rattle.std.proofs.Common.{◌≡◌, ℕ, ◌+◌, ◌*◌, ◌/◌, ◌<◌, ◌≤◌, min, true, eqb, leb, List, [], ◌∷◌, ◌++◌, length, take, sym, refl, ap, ◌∙◌, arith, length-append}
+use Rattle.std.proofs.Common.{◌≡◌, ℕ, ◌+◌, ◌*◌, ◌/◌, ◌<◌, ◌≤◌, true, List, [], ◌∷◌, ◌++◌, length, take, sym, refl, ap, ◌∙◌, arith, length-append}
 use Rattle.message_write.proofs.Puts.{numbers_long}
-use Rattle.message_write.specs.Put.{Put}
 use Rattle.message_write.specs.Steps.{PrefixSteps, AttributeSteps, SizeSteps}
-use Rattle.message_write.specs.Written.{number_bytes, numbers_bytes, prefix_bytes, path_bytes, communities_bytes, attributes_bytes}
+use Rattle.message_write.specs.Written.{number_bytes, prefix_bytes, path_bytes, communities_bytes, attributes_bytes}
 use Rattle.prefix.specs.Prefix.{Prefix, is_prefix}
 use Rattle.route.specs.Route.{Route}
 use Rattle.std.proofs.lemmas.List.{append-nil, length-take-le}

@@ -1,5 +1,5 @@
 -- A message behind a head of 4 bytes. Assumes nothing.
-use Rattle.std.proofs.Common.{◌≡◌, ℕ, suc, ◌+◌, ◌-◌, ◌≤◌, true, leb, List, [], ◌∷◌, ◌++◌, length, get_or, take, drop, Some, None, Option, sym, refl, ap, ◌∙◌, subst, arith, length-append, length-drop}
+use Rattle.std.proofs.Common.{◌≡◌, ℕ, suc, ◌+◌, ◌-◌, ◌≤◌, true, leb, List, [], ◌∷◌, ◌++◌, length, get_or, take, drop, Option, sym, refl, ap, ◌∙◌, arith, length-append, length-drop}
 use Rattle.message_write.specs.Put.{Wrote}
 use Rattle.outbox.specs.Frames.{Carries}
 use Rattle.outbox.specs.Steps.{Framed, Behind, HeadSteps, FitSteps}

@@ -1,13 +1,12 @@
 -- Rows of updates and of frames. Assumes nothing.
-use Rattle.std.proofs.Common.{◌≡◌, ℕ, ◌<◌, Bool, true, false, ◌||◌, List, [], ◌∷◌, ◌++◌, sym, refl, ap, ◌∙◌, subst}
+use Rattle.std.proofs.Common.{◌≡◌, ℕ, Bool, true, false, ◌||◌, List, [], ◌∷◌, sym, refl, ap, ◌∙◌, subst}
 use Rattle.model.proofs.Chains.{none, one, join}
 use Rattle.model.specs.Chain.{Chain}
 use Rattle.model.specs.Updates.{Update}
-use Rattle.outbox.specs.Frames.{Frame, reaches, reaches_any, update_frame, update_frames}
-use Rattle.outbox.specs.Laws.{AllTellable, WritesFrame, Written, Told, PutOut, OutboxLaws}
+use Rattle.outbox.specs.Frames.{Frame, reaches, reaches_any, update_frames}
+use Rattle.outbox.specs.Laws.{AllTellable, Told, PutOut, OutboxLaws}
 use Rattle.outbox.specs.Outbox.{Box, box_of, Puts, SendsBy}
 use Rattle.outbox.specs.declared.Outbox.{Outbox}
-use Rattle.rib.specs.Received.{most_peers}
 
 or_after : (a b c : Bool) → (b || (a || c)) ≡ ((a || b) || c)
 or_after true true c = refl

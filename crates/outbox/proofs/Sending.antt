@@ -1,5 +1,5 @@
 -- An update that was put out. Assumes nothing.
-use Rattle.std.proofs.Common.{◌≡◌, ℕ, true, List, Some, None, Option, sym, ap, subst, arith}
+use Rattle.std.proofs.Common.{◌≡◌, ℕ, true, List, Some, None, Option, sym, subst, arith}
 use Rattle.message_laws.specs.RoundTrip.{Sendable}
 use Rattle.message_write.specs.Written.{withdrawal_bytes, announcement_bytes}
 use Rattle.outbox.specs.Frames.{Carries, update_bytes}

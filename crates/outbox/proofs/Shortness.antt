@@ -1,5 +1,5 @@
 -- No message that is put out has more than 256 bytes. Assumes nothing.
-use Rattle.std.proofs.Common.{◌≡◌, ℕ, ◌+◌, ◌≤◌, true, ◌⊎◌, List, length, inl, inr, arith}
+use Rattle.std.proofs.Common.{◌≡◌, ℕ, ◌≤◌, true, ◌⊎◌, List, length, inl, inr, arith}
 use Rattle.message_write.proofs.Messages.{message_long, body_steps}
 use Rattle.message_write.proofs.Sizes.{short, prefix_steps, size_steps}
 use Rattle.message_write.specs.Written.{header_bytes, communities_bytes, prefix_bytes, withdrawal_body, withdrawal_bytes, announcement_body, announcement_bytes}

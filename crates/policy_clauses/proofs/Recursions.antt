@@ -4,10 +4,10 @@ use Rattle.std.proofs.lemmas.List.{length-map, length_push, map_push}
 use Rattle.std.proofs.lemmas.Bool.Decides.{nat_tests}
 use Rattle.policy.specs.declared.Part.{Part}
 use Rattle.policy_words.specs.Words.{is_ascii, test_word, joint_word}
-use Rattle.text_tokens.specs.Tokens.{Source, Ended, More, Token, Kind, Word, Sign}
+use Rattle.text_tokens.specs.Tokens.{Source, Ended, More, Kind, Word, Sign}
 use Rattle.policy_clauses.specs.declared.Awaited.{Awaited}
 use Rattle.policy_clauses.specs.declared.Awaited.TheVariants as awaited
-use Rattle.policy_clauses.specs.Reading.{Reading, Got, Stop, index_from, joined, next, on_kind, on_word, part, part_at, parts, word}
+use Rattle.policy_clauses.specs.Reading.{Reading, Got, Stop, index_from, joined, next, on_word, part, part_at, parts, word}
 use Rattle.policy_clauses.specs.Steps.{NameSteps, PartSteps, PartsSteps, RowSteps, WordSteps, size}
 
 pub name_steps : NameSteps

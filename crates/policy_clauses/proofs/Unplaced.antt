@@ -1,6 +1,5 @@
 -- What is read does not hang on places: from tokens without places the same is read, or is refused for the same. Assumes nothing.
-use Rattle.std.proofs.Common.{◌≡◌, ℕ, zero, suc, Bool, true, false, cond, not, leb, List, [], ◌∷◌, ◌++◌, Some, None, codes, Option, sym, refl, ap, ◌∙◌}
-use Rattle.policy.specs.declared.Action.{Action}
+use Rattle.std.proofs.Common.{◌≡◌, ℕ, zero, suc, Bool, true, false, cond, not, leb, List, [], ◌∷◌, ◌++◌, Some, None, codes, Option, refl, ap, ◌∙◌}
 use Rattle.policy.specs.declared.Action.TheVariants as an_action
 use Rattle.policy.specs.declared.Part.{Part}
 use Rattle.policy.specs.declared.Test.{Test}
@@ -19,7 +18,7 @@ use Rattle.text_tokens.specs.Spacing.{unplaced}
 use Rattle.text_tokens.specs.Tokens.{Kind, Word, Sign, Source, Ended, More}
 use Rattle.policy_clauses.specs.declared.Awaited.{Awaited}
 use Rattle.policy_clauses.specs.declared.Awaited.TheVariants as awaited
-use Rattle.policy_clauses.specs.Reading.{Reading, Got, Stop, Written, action_at, action_of, clause, condition, index_of, joined, list_name, next, number, on_kind, on_word, or_stop, part, part_at, parts, range_test, test_at, times, word}
+use Rattle.policy_clauses.specs.Reading.{Reading, Got, Stop, action_at, action_of, clause, condition, index_of, joined, list_name, next, number, on_kind, on_word, or_stop, part, part_at, parts, range_test, test_at, times, word}
 
 -- what was read, with h of the value and without places
 abbrev pub strip_by : {A : Type 0} → (A → A) → Reading A → Reading A

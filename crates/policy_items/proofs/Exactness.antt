@@ -1,5 +1,5 @@
 -- Each limit is exact. Assumes nothing.
-use Rattle.std.proofs.Common.{◌≡◌, ℕ, zero, suc, ◌+◌, ◌<◌, ◌≤◌, Bool, true, false, cond, ◌||◌, ◌⊎◌, List, [], ◌∷◌, ◌++◌, length, Some, None, Option, sym, refl, ap, ◌∙◌, inl, inr, ⊎_elim, arith}
+use Rattle.std.proofs.Common.{◌≡◌, ℕ, zero, suc, ◌+◌, ◌≤◌, Bool, true, false, ◌||◌, ◌⊎◌, List, [], ◌∷◌, ◌++◌, length, Some, None, Option, sym, refl, ap, ◌∙◌, inl, inr, ⊎_elim, arith}
 use Rattle.policy.specs.declared.Part.{Part}
 use Rattle.policy_clauses.specs.Reading.{Reading, Got, Stop, Written, clause, condition, joined, next, part, parts, word}
 use Rattle.policy_clauses.specs.declared.Awaited.{Awaited}
@@ -12,8 +12,7 @@ use Rattle.policy_words.specs.declared.JointWord.{JointWord}
 use Rattle.policy_words.specs.declared.JointWord.TheVariants as joint
 use Rattle.prefix.specs.Prefix.{Prefix}
 use Rattle.std.proofs.lemmas.List.{length_push}
-use Rattle.std.proofs.lemmas.Bool.Decides.{nat_tests}
-use Rattle.text_tokens.specs.Tokens.{Source, Ended, More, Token}
+use Rattle.text_tokens.specs.Tokens.{Source, Ended, More}
 use Rattle.policy_items.specs.Limits.{Exact, LimitLaws}
 
 -- how reading goes on behind one more element

@@ -1,6 +1,5 @@
 -- The steps of the recursions. Assumes nothing.
-use Rattle.std.proofs.Common.{◌≡◌, ℕ, zero, suc, ◌-◌, ◌≤◌, Bool, true, false, cond, ◌||◌, eqb, List, [], ◌∷◌, ◌++◌, map, length, take, drop, sym, refl, ap, ◌∙◌, arith}
-use Rattle.policy.specs.declared.Clause.{Clause}
+use Rattle.std.proofs.Common.{◌≡◌, ℕ, zero, suc, ◌-◌, Bool, false, cond, ◌||◌, eqb, List, [], ◌∷◌, ◌++◌, map, length, drop, sym, refl, ap, ◌∙◌, arith}
 use Rattle.policy_clauses.specs.Meant.{written_of}
 use Rattle.policy_clauses.specs.Reading.{Reading, Stop, Written, clause, next}
 use Rattle.policy_clauses.specs.declared.Awaited.TheVariants as awaited

@@ -1,13 +1,13 @@
 -- What is read does not hang on places. Assumes nothing.
-use Rattle.std.proofs.Common.{◌≡◌, ℕ, zero, suc, Bool, true, false, cond, not, ◌&&◌, ◌||◌, List, [], ◌∷◌, ◌++◌, is_some, Some, None, Option, sym, refl, ap, ◌∙◌}
-use Rattle.policy_clauses.proofs.Unplaced.{bare, clause_blind, cond_blind, next_blind, or_blind, strip, strip_by, then_blind, word_blind}
+use Rattle.std.proofs.Common.{◌≡◌, ℕ, zero, suc, Bool, true, false, cond, not, ◌&&◌, ◌||◌, List, [], ◌∷◌, ◌++◌, is_some, Some, None, Option, refl, ap, ◌∙◌}
+use Rattle.policy_clauses.proofs.Unplaced.{bare, clause_blind, cond_blind, or_blind, strip, then_blind, word_blind}
 use Rattle.policy_clauses.specs.Reading.{Reading, Got, Stop, Written, clause, index_of, next, or_stop, word}
 use Rattle.policy_clauses.specs.declared.Awaited.TheVariants as awaited
 use Rattle.policy_words.specs.Words.{is_name, prefix_of}
 use Rattle.prefix.specs.Prefix.{Prefix}
 use Rattle.std.specs.Option.{option_map}
 use Rattle.text_tokens.specs.Spacing.{unplaced}
-use Rattle.text_tokens.specs.Tokens.{Kind, Source, Ended, More}
+use Rattle.text_tokens.specs.Tokens.{Source, Ended, More}
 use Rattle.policy_items.specs.declared.signs.Start.{Start}
 use Rattle.policy_items.specs.declared.signs.Start.TheVariants as a_start
 use Rattle.policy_items.specs.Items.{clauses, comma, equals, is_comma, is_equals, is_open, list_head, listed, opens, prefix, prefixes, start_of, started}

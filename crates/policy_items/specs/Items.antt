@@ -5,7 +5,7 @@ use Rattle.policy_clauses.specs.declared.Awaited.TheVariants as awaited
 use Rattle.policy_clauses.specs.Reading.{Reading, Got, Stop, Written, clause, index_of, next, or_stop, word}
 use Rattle.policy_words.specs.Words.{is_name, prefix_of}
 use Rattle.std.specs.Str.{bytes_eq}
-use Rattle.text_tokens.specs.Tokens.{Kind, Word, Sign, Token, Source, Ended, More}
+use Rattle.text_tokens.specs.Tokens.{Kind, Word, Sign, Source, Ended, More}
 use Rattle.text_tokens.specs.declared.Sign.TheVariants as a_sign
 use Rattle.policy_items.specs.declared.signs.Start as stored_start
 use Rattle.policy_items.specs.declared.signs.Start.TheVariants as a_start

@@ -1,5 +1,5 @@
 -- Slots in a pool that grows. Assumes nothing.
-use Rattle.std.proofs.Common.{◌≡◌, ℕ, zero, suc, ◌+◌, ◌-◌, ◌<◌, ◌≤◌, min, Bool, true, false, cond, ◌&&◌, eqb, leb, List, [], ◌∷◌, ◌++◌, map, length, get_or, take, drop, set, replicate, is_some, Some, None, sym, refl, ap, ◌∙◌, arith, length-drop, length-take}
+use Rattle.std.proofs.Common.{◌≡◌, ℕ, zero, suc, ◌+◌, ◌-◌, ◌≤◌, Bool, true, false, cond, ◌&&◌, eqb, leb, List, [], ◌∷◌, ◌++◌, map, length, get_or, take, drop, set, replicate, is_some, Some, None, sym, refl, ap, ◌∙◌, arith, length-drop, length-take}
 use Rattle.policy.specs.declared.Clause.{Clause}
 use Rattle.policy.specs.Meant.{prefixes_of}
 use Rattle.policy_clauses.specs.Meant.{written_of}
@@ -7,7 +7,7 @@ use Rattle.policy_clauses.specs.Reading.{Reading, Got, Stop, next}
 use Rattle.policy_clauses.specs.declared.Awaited.TheVariants as awaited
 use Rattle.text_tokens.specs.Tokens.{Source, Ended, More, Token}
 use Rattle.policy_tables.specs.Texts.{Draft, item, items}
-use Rattle.std.proofs.lemmas.List.{drop-append-le, length-map, length_push, map_push, take-append-drop, take-append-le, take_rest, map-set, length-append}
+use Rattle.std.proofs.lemmas.List.{drop-append-le, length-map, length_push, map_push, take-append-drop, take-append-le, take_rest, map-set}
 use Rattle.std.proofs.lemmas.Bool.Decides.{nat_tests}
 use Rattle.policy_tables.specs.declared.Slot.{Slot}
 use Rattle.policy_tables.specs.Slots.{all_fit, free_slot, slot_policy}

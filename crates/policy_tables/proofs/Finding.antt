@@ -1,5 +1,5 @@
 -- Finding a policy, and its clauses with their lists. Assumes nothing.
-use Rattle.std.proofs.Common.{◌≡◌, ℕ, zero, suc, ◌+◌, ◌≤◌, true, ◌&&◌, leb, List, [], ◌∷◌, map, get_or, Some, None, unwrap_or, sym, refl, ap, ◌∙◌, arith}
+use Rattle.std.proofs.Common.{◌≡◌, ℕ, zero, suc, ◌+◌, ◌≤◌, true, List, [], ◌∷◌, map, get_or, Some, None, unwrap_or, refl, ap, arith}
 use Rattle.policy.specs.Meant.{action_of, clause_of, list_at, part_of, parts_of, prefixes_of, test_of}
 use Rattle.policy.specs.Policy.{Part as MeantPart}
 use Rattle.policy.specs.declared.Clause.{Clause}

@@ -1,9 +1,9 @@
 -- What is true of every policy text. Assumes nothing.
-use Rattle.std.proofs.Common.{◌≡◌, ℕ, zero, suc, ◌+◌, ◌-◌, ◌<◌, ◌≤◌, min, Bool, true, false, cond, not, ◌&&◌, ltb, leb, List, [], ◌∷◌, ◌++◌, map, length, get_or, replicate, is_some, Some, None, Option, sym, refl, ap, ◌∙◌, arith}
+use Rattle.std.proofs.Common.{◌≡◌, ℕ, zero, suc, ◌+◌, ◌-◌, ◌≤◌, min, Bool, true, false, cond, not, ◌&&◌, ltb, leb, List, [], ◌∷◌, ◌++◌, length, get_or, replicate, is_some, Some, None, Option, sym, refl, ap, ◌∙◌, arith}
 use Rattle.policy.proofs.Verdicts.{laws as policies}
 use Rattle.policy.specs.Policy.{Policy, evaluate}
-use Rattle.policy_clauses.proofs.Unplaced.{bare, cond_blind, kind_blind, next_blind, or_blind, strip, strip_by, then_blind, word_blind}
-use Rattle.policy_clauses.specs.Reading.{Reading, Got, Stop, Written, index_from, index_of, next, on_kind, or_stop, word}
+use Rattle.policy_clauses.proofs.Unplaced.{bare, cond_blind, kind_blind, or_blind, strip, then_blind, word_blind}
+use Rattle.policy_clauses.specs.Reading.{Reading, Got, Stop, Written, index_from, index_of, next, or_stop, word}
 use Rattle.policy_clauses.specs.declared.Awaited.TheVariants as awaited
 use Rattle.policy_items.proofs.Unplaced.{clauses_blind, list_head_blind, opens_blind, prefixes_blind}
 use Rattle.policy_items.specs.Items.{clauses, list_head, opens, prefix_list}
@@ -15,14 +15,13 @@ use Rattle.route.specs.Route.{Route}
 use Rattle.std.proofs.lemmas.Slice.Eq.{bytes_eq-Decides}
 use Rattle.std.proofs.lemmas.List.{get_or_append_left, get_or_at}
 use Rattle.std.proofs.lemmas.Bool.{cond-true, cond-false, le-leb, lt-leb, lt-ltb, le-ltb}
-use Rattle.std.proofs.lemmas.Bool.Decides.{nat_tests}
 use Rattle.std.specs.Str.{bytes_eq}
 use Rattle.text_tokens.specs.Spacing.{Same, unplaced}
 use Rattle.text_tokens.specs.Tokens.{Source, Ended, More, tokens}
 use Rattle.policy_tables.specs.declared.Direction.{Direction}
 use Rattle.policy_tables.specs.declared.Direction.TheVariants.{Import, Export}
 use Rattle.policy_tables.specs.Laws.{TextLaws, placeless}
-use Rattle.policy_tables.specs.Texts.{Content, Draft, Outcome, Read, Refused, clauses_meant, empty, item, item_text, items, list_text, meaning, nothing, outcome, peer, place_of, policy_for, policy_text, with_list, with_policy}
+use Rattle.policy_tables.specs.Texts.{Content, Draft, clauses_meant, empty, item, item_text, items, list_text, meaning, nothing, outcome, peer, place_of, policy_for, policy_text, with_list, with_policy}
 
 peer_blind : (peers : ℕ) (direction : Direction) (ps : List (Option (List Written))) (s : Source) → peer peers direction ps (unplaced s) ≡ strip (peer peers direction ps s)
 peer_blind peers direction ps =

@@ -3,8 +3,7 @@ use Rattle.std.specs.Prelude.{◌≡◌, ℕ, Bool, List, map, length, Some, Non
 use Rattle.std.specs.Borrow.{Bor}
 use Rattle.policy.specs.Meant.{prefixes_of}
 use Rattle.policy.specs.declared.Clause.{Clause}
-use Rattle.policy_clauses.specs.Meant.{names_of, written_of}
-use Rattle.policy_clauses.specs.declared.Names.{Names}
+use Rattle.policy_clauses.specs.Meant.{written_of}
 use Rattle.policy_items.specs.Meant.{stored}
 use Rattle.policy_clauses.specs.Reading.{Reading, Stop, Written}
 use Rattle.policy_clauses.specs.declared.Awaited.TheVariants as awaited
@@ -15,7 +14,7 @@ use Rattle.text_tokens.specs.declared.Kind.TheVariants as a_kind
 use Rattle.text_tokens.specs.declared.Token.{Token as StoredToken}
 use Rattle.policy_tables.specs.declared.Policies.{Policies}
 use Rattle.policy_tables.specs.Slots.{slot_policy}
-use Rattle.policy_tables.specs.Texts.{Content, Draft, Outcome, Read, Refused, item, outcome}
+use Rattle.policy_tables.specs.Texts.{Content, Draft, Outcome, Read, Refused, item}
 
 abbrev pub content_of : Policies → Content
 content_of p = record { lists = map prefixes_of (vec_items p.lists); policies = map (slot_policy (stored p.pool)) p.slots }

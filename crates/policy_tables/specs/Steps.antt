@@ -1,5 +1,5 @@
 -- Facts that the code cites. Assumes nothing.
-use Rattle.std.specs.Prelude.{◌≡◌, ℕ, ◌+◌, ◌-◌, ◌<◌, ◌≤◌, true, cond, List, [], ◌∷◌, ◌++◌, map, length, get_or, take, drop, replicate, is_some, Some, None, Option, ◌==◌, slice_index_or, slice_set}
+use Rattle.std.specs.Prelude.{◌≡◌, ℕ, ◌+◌, ◌-◌, ◌≤◌, true, cond, List, [], ◌∷◌, ◌++◌, map, length, get_or, take, drop, is_some, Some, None, Option, ◌==◌, slice_index_or, slice_set}
 use Rattle.policy.specs.Meant.{clause_of, prefixes_of}
 use Rattle.policy.specs.declared.Clause.{Clause}
 use Rattle.policy.specs.declared.PrefixList.{PrefixList}

@@ -1,5 +1,5 @@
 -- What a policy text means. Assumes nothing.
-use Rattle.std.specs.Prelude.{ℕ, zero, suc, ◌+◌, ◌-◌, min, Bool, true, false, cond, not, ◌&&◌, List, [], ◌∷◌, ◌++◌, map, length, replicate, is_some, Some, None, Option, nat_le, nat_lt, slice_index_or, slice_set}
+use Rattle.std.specs.Prelude.{ℕ, zero, suc, ◌+◌, ◌-◌, min, true, cond, not, ◌&&◌, List, [], ◌∷◌, ◌++◌, map, length, replicate, is_some, Some, None, Option, nat_le, nat_lt, slice_index_or, slice_set}
 use Rattle.policy.specs.Meant.{action_of}
 use Rattle.policy.specs.Policy.{Clause, Part, Policy, Test, Any, PrefixIn, PrefixWithin, Passes, HasCommunity, LongerThan}
 use Rattle.policy.specs.declared.Part as stored_part

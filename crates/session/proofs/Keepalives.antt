@@ -1,11 +1,11 @@
 -- That an established session always sends in time. Assumes nothing.
-use Rattle.std.proofs.Common.{◌≡◌, ℕ, ◌+◌, ◌<◌, ◌≤◌, Bool, true, false, cond, not, ◌&&◌, eqb, leb, ◌⊎◌, List, [], ◌∷◌, ◌++◌, sym, refl, ap, ◌∙◌, subst, inl, inr, ⊎_elim, arith}
-use Rattle.std.proofs.lemmas.Bool.{true≢false, cond-true, cond-false, le-leb, lt-leb, eq-eqb, ne_eqb, cases_lt, cases_Bool}
+use Rattle.std.proofs.Common.{◌≡◌, ℕ, ◌+◌, ◌<◌, ◌≤◌, true, false, not, ◌&&◌, eqb, leb, ◌⊎◌, List, [], ◌∷◌, ◌++◌, sym, refl, ap, ◌∙◌, subst, inl, inr, ⊎_elim, arith}
+use Rattle.std.proofs.lemmas.Bool.{true≢false, cond-true, cond-false, le-leb, lt-leb, eq-eqb, ne_eqb, cases_lt}
 use Rattle.session.specs.declared.Phase.{Phase}
 use Rattle.session.specs.declared.Phase.TheVariants.{Down, OpenSent, Established}
 use Rattle.session.specs.Session.{Session, down, is_down, is_established, is_established_in, later, hold_time, keepalive_time}
 use Rattle.session.specs.Clocks.{Beat, Tick, Hears, Sends, after, after_beat, after_tick, sends_keepalive, ticks, sends_nothing, KeepaliveWithin}
-use Rattle.session.proofs.Beats.{at, sent_later, established_tick, last_tick, down_rests, stays_down, after_append}
+use Rattle.session.proofs.Beats.{at, established_tick, last_tick, down_rests, stays_down, after_append}
 
 -- what a tick does to an established session: it goes down, a KEEPALIVE goes, or its clock goes on
 data Ticked (h n : ℕ) : Type 0 where

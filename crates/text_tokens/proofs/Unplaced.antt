@@ -1,12 +1,12 @@
 -- What stands between tokens changes nothing but their places. Assumes nothing.
-use Rattle.std.proofs.Common.{◌≡◌, ℕ, ◌+◌, Bool, true, false, cond, eqb, List, [], ◌∷◌, ◌++◌, sym, refl, ap, ◌∙◌, arith}
+use Rattle.std.proofs.Common.{◌≡◌, ℕ, ◌+◌, Bool, true, false, eqb, List, [], ◌∷◌, ◌++◌, sym, refl, ap, ◌∙◌, arith}
 use Rattle.std.proofs.lemmas.Bool.Decides.{nat_tests}
 use Rattle.text_tokens.specs.declared.Class.{Class}
 use Rattle.text_tokens.specs.declared.Class.TheVariants.{Blank, LineEnd, Hash, Letter}
 use Rattle.text_tokens.specs.declared.Class.TheVariants as a_class
 use Rattle.text_tokens.specs.declared.Sign as a_sign
-use Rattle.text_tokens.specs.Spacing.{IsBlank, Same, SpacingLaws, is_one_line, unplaced}
-use Rattle.text_tokens.specs.Tokens.{Source, Ended, More, Mode, Between, Comment, InWord, Kind, Word, Sign, after, class_of, scan, whole}
+use Rattle.text_tokens.specs.Spacing.{IsBlank, SpacingLaws, is_one_line, unplaced}
+use Rattle.text_tokens.specs.Tokens.{Source, More, Mode, Between, Comment, InWord, Kind, Word, Sign, after, class_of, scan, whole}
 
 abbrev token : Bool → Kind → Source → Source
 token fresh k rest = More (record { at = 0; fresh = fresh; kind = k }) rest

@@ -1,5 +1,5 @@
 -- What stands between tokens changes nothing but their places. Assumes nothing.
-use Rattle.std.specs.Prelude.{◌≡◌, ℕ, Bool, true, false, cond, not, ◌&&◌, List, [], ◌∷◌, ◌++◌, ◌==◌}
+use Rattle.std.specs.Prelude.{◌≡◌, ℕ, Bool, true, false, cond, List, [], ◌∷◌, ◌++◌, ◌==◌}
 use Rattle.text_tokens.specs.declared.Class.TheVariants as a_class
 use Rattle.text_tokens.specs.declared.Sign as a_sign
 use Rattle.text_tokens.specs.Tokens.{Source, Ended, More, class_of, tokens}

@@ -1,5 +1,5 @@
 -- One step of scanning. Assumes nothing.
-use Rattle.std.specs.Prelude.{◌≡◌, ℕ, ◌+◌, ◌-◌, ◌<◌, ◌≤◌, Bool, false, List, [], ◌∷◌, length, take, drop, slice_index, slice_range}
+use Rattle.std.specs.Prelude.{◌≡◌, ℕ, ◌+◌, ◌<◌, ◌≤◌, Bool, false, List, [], ◌∷◌, length, take, drop, slice_index, slice_range}
 use Rattle.text_tokens.specs.declared.Place.{Place}
 use Rattle.text_tokens.specs.Places.{after as behind, place_from}
 use Rattle.text_tokens.specs.Tokens.{Mode, Between, Run, class_of, after, whole, worded, ended, scan}

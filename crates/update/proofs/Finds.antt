@@ -1,12 +1,12 @@
 -- Reading attributes one by one. Assumes nothing.
-use Rattle.std.proofs.Common.{◌≡◌, ℕ, ◌+◌, ◌<◌, ◌≤◌, Bool, true, false, cond, List, [], ◌∷◌, length, take, drop, sym, refl, ap, ◌∙◌, arith, length-drop}
+use Rattle.std.proofs.Common.{◌≡◌, ℕ, ◌<◌, ◌≤◌, cond, List, ◌∷◌, length, take, drop, sym, ap, ◌∙◌, arith, length-drop}
 use Rattle.attributes.specs.AsPath.{got, fault}
-use Rattle.attributes.specs.Layout.{attribute_size, is_extended, type_of}
+use Rattle.attributes.specs.Layout.{attribute_size, type_of}
 use Rattle.attributes.specs.Meaning.{Peer}
 use Rattle.std.proofs.lemmas.List.{nil_from_length}
 use Rattle.std.proofs.lemmas.Bool.{cond-true, cond-false}
 use Rattle.std.proofs.lemmas.Bool.Decides.{nat_tests}
-use Rattle.update.specs.Finding.{Found, add, add_all, find_all, read_once, noted, take_reading}
+use Rattle.update.specs.Finding.{Found, add, add_all, find_all, read_once, take_reading}
 use Rattle.update.specs.Steps.{AddSteps, FindSteps}
 use Rattle.wire.proofs.Cuts.{piece_steps}
 use Rattle.wire.specs.Pieces.{pieces, overruns}

@@ -1,5 +1,5 @@
 -- What is found among attributes read one by one is what the message says. Assumes nothing.
-use Rattle.std.proofs.Common.{◌≡◌, ℕ, ◌<◌, ◌≤◌, Bool, true, false, cond, not, ◌&&◌, ◌||◌, eqb, ltb, leb, List, [], ◌∷◌, map, length, get_or, Some, None, Option, sym, refl, ap, ◌∙◌, arith}
+use Rattle.std.proofs.Common.{◌≡◌, ℕ, ◌<◌, ◌≤◌, Bool, true, false, cond, not, ◌&&◌, ◌||◌, eqb, ltb, leb, List, [], ◌∷◌, length, get_or, Some, None, sym, refl, ap, ◌∙◌, arith}
 use Rattle.attributes.specs.AsPath.{Reading, got, fault, segment_size, path_in, is_path, read_path}
 use Rattle.attributes.specs.Layout.{attribute_size, type_of, value_of, kind_of, has_flags, has_length, has_form}
 use Rattle.attributes.specs.Meaning.{NextHop as a_hop_value, Communities as a-row-value, Med as a-med, Unused as unused, Path as a-way}
@@ -9,7 +9,7 @@ use Rattle.attributes.specs.declared.Kind.TheVariants.{Origin, AsPath, NextHop, 
 use Rattle.route.specs.Numbers.{is_in, sorted}
 use Rattle.std.proofs.lemmas.Bool.{eqb-true}
 use Rattle.std.proofs.lemmas.Bool.Decides.{nat_tests}
-use Rattle.update.specs.Finding.{Found, no_types, with_type, noted, take_reading, read_once, add, add_all, find_all, nothing_found, both_checked, announced, judged, content_from}
+use Rattle.update.specs.Finding.{Found, no_types, with_type, noted, take_reading, add, add_all, find_all, nothing_found, both_checked, announced, judged, content_from}
 use Rattle.update.specs.Sections.{sections_end, withdrawn_in, attributes_in, announced_in}
 use Rattle.update.specs.Steps.{UpdateSteps}
 use Rattle.update.specs.Update.{Content, Announces, Withdraws, Faulty, attributes_of, types_of, announces, repeats, is_malformed, has_malformed, is_invalid, is_foreign, update_fault, value_at, content_of, read_update}

@@ -1,5 +1,5 @@
 -- What the code's values stand for. Assumes nothing.
-use Rattle.std.specs.Prelude.{ℕ, List, Some, None, Option}
+use Rattle.std.specs.Prelude.{ℕ, Some, None, Option}
 use Rattle.attributes.specs.Meaning.{no_fault}
 use Rattle.fault.specs.Fault.{code}
 use Rattle.fault.specs.declared.Fault.{Fault}

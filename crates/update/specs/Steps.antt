@@ -1,5 +1,5 @@
 -- One step of each recursion. Assumes nothing.
-use Rattle.std.specs.Prelude.{◌≡◌, ℕ, ◌+◌, ◌-◌, ◌<◌, ◌≤◌, Bool, true, false, not, List, [], ◌∷◌, length, take, drop, replicate, Some, None, ◌==◌, nat_lt, slice_index_or, slice_set}
+use Rattle.std.specs.Prelude.{◌≡◌, ℕ, ◌+◌, ◌-◌, ◌<◌, ◌≤◌, Bool, true, false, not, List, length, take, drop, replicate, Some, None, ◌==◌, nat_lt, slice_index_or, slice_set}
 use Rattle.attributes.specs.AsPath.{Reading, got, fault}
 use Rattle.attributes.specs.Layout.{attribute_size, type_of}
 use Rattle.attributes.specs.Meaning.{Peer, Value, no_fault}

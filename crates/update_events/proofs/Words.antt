@@ -1,14 +1,14 @@
 -- What an UPDATE says, prefix by prefix. Assumes nothing.
-use Rattle.std.proofs.Common.{◌≡◌, ℕ, zero, suc, ◌+◌, ◌<◌, ◌≤◌, Bool, true, false, cond, not, ◌&&◌, ◌||◌, List, [], ◌∷◌, ◌++◌, Some, None, Option, sym, refl, ap, ◌∙◌, subst, ⊎_elim, append-nil, add-one, arith}
+use Rattle.std.proofs.Common.{◌≡◌, ℕ, zero, suc, ◌+◌, ◌≤◌, Bool, true, false, cond, ◌||◌, List, [], ◌∷◌, ◌++◌, Some, None, Option, sym, refl, ap, ◌∙◌, subst, ⊎_elim, append-nil, add-one, arith}
 use Rattle.model.proofs.Rows.{no_row, row_join, one_event}
-use Rattle.model.specs.Model.{Size, Event, Now, Announces, Withdraws}
+use Rattle.model.specs.Model.{Size, Now}
 use Rattle.model.specs.Rows.{PromisedAll}
 use Rattle.model.specs.Stands.{Promised}
 use Rattle.model.specs.Updates.{Update}
 use Rattle.prefix.proofs.Descent.{inverse}
 use Rattle.prefix.specs.Prefix.{Prefix, is_prefix}
 use Rattle.rib.specs.Received.{Received, is_route, count_of}
-use Rattle.std.proofs.lemmas.Bool.{cond-true, cond-false, cases_lt, or_from, or_right}
+use Rattle.std.proofs.lemmas.Bool.{cond-true, cond-false, cases_lt, or_from}
 use Rattle.route.specs.Route.{Route}
 use Rattle.update.specs.Update.{Content}
 use Rattle.update.specs.Update as says

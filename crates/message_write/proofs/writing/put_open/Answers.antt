@@ -1,4 +1,4 @@
-use Rattle.std.proofs.Common.{◌≡◌, [], ◌∷◌, ◌++◌, ap, ◌∙◌}
+use Rattle.std.proofs.Common.{[], ◌∷◌, ap, ◌∙◌}
 use Rattle.message_write.proofs.Puts.{join, join_five, put_same}
 use Rattle.message_write.proofs.writing.put_open.Goals as goal
 use Rattle.message_write.specs.Written.{short_asn}

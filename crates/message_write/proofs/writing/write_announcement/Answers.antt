@@ -1,4 +1,4 @@
-use Rattle.std.proofs.Common.{◌≡◌, ◌+◌, [], ◌∷◌, ◌++◌, length, ap, ◌∙◌, arith}
+use Rattle.std.proofs.Common.{◌+◌, [], ◌∷◌, ◌++◌, length, ap, ◌∙◌, arith}
 use Rattle.message_write.proofs.Puts.{join, put_same}
 use Rattle.message_write.proofs.writing.write_announcement.Goals as goal
 use Rattle.message_write.specs.Written.{announcement_body, attributes_bytes, prefix_bytes}

@@ -1,4 +1,4 @@
-use Rattle.std.proofs.Common.{[], ◌∷◌, refl, ap, subst, arith}
+use Rattle.std.proofs.Common.{[], ◌∷◌, refl, subst, arith}
 use Rattle.fault.specs.Fault.{code}
 use Rattle.message_write.proofs.writing.write_notification.Goals as goal
 use Rattle.message_write.specs.Put.{Put}

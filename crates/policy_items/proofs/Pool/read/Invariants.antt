@@ -1,4 +1,4 @@
-use Rattle.std.proofs.Common.{◌≡◌, ◌+◌, ◌-◌, ◌≤◌, min, true, [], map, length, take, drop}
+use Rattle.std.proofs.Common.{◌≡◌, ◌-◌, ◌≤◌, min, true, [], map, length, take, drop}
 use Rattle.policy_clauses.specs.Meant.{names_of, written_of}
 use Rattle.policy_items.specs.Items.{clauses}
 use Rattle.policy_items.specs.Meant.{stored}

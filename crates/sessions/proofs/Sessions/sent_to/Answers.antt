@@ -1,7 +1,7 @@
-use Rattle.std.proofs.Common.{◌≡◌, cond, sym, refl, ap, ◌∙◌, arith}
+use Rattle.std.proofs.Common.{cond, sym, refl, ◌∙◌, arith}
 use Rattle.peers.specs.Members.{is_member}
 use Rattle.session.specs.Meant.{session_of}
-use Rattle.session.specs.Session.{Session, sent_now}
+use Rattle.session.specs.Session.{sent_now}
 use Rattle.sessions.proofs.Rows.{one_more, untouched, all_are, stays_sent}
 use Rattle.sessions.proofs.Sessions.sent_to.Goals as goal
 use Rattle.sessions.specs.Sessions.{sent_to, sessions_of}

@@ -1,7 +1,7 @@
-use Rattle.std.proofs.Common.{◌≡◌, cond, sym, refl, ap, ◌∙◌, arith}
+use Rattle.std.proofs.Common.{cond, sym, refl, ap, ◌∙◌, arith}
 use Rattle.peers.specs.Members.{is_member}
 use Rattle.session.specs.Meant.{session_of}
-use Rattle.session.specs.Session.{Session, down, is_silent, ticked}
+use Rattle.session.specs.Session.{down, is_silent, ticked}
 use Rattle.sessions.proofs.Rows.{one_more, untouched, all_are, one_more_silent, all_silent}
 use Rattle.sessions.proofs.Sessions.tick.Goals as goal
 use Rattle.sessions.specs.Sessions.{sessions_later, sessions_of, silent_in}

@@ -1,4 +1,4 @@
-use Rattle.std.proofs.Common.{◌≡◌, get_or, sym, ap, ◌∙◌, arith, rules, below_more}
+use Rattle.std.proofs.Common.{◌≡◌, get_or, ap, ◌∙◌, arith}
 use Rattle.text_tokens.specs.Tokens.{class_of}
 use Rattle.text_tokens.proofs.readers.word_end.Goals as goal
 
