@@ -1,6 +1,6 @@
 -- What is heard is what was told. Assumes nothing.
-use Rattle.std.proofs.Common.{◌≡◌, ℕ, ◌+◌, ◌<◌, ◌≤◌, Bool, true, false, cond, ◌&&◌, eqb, ltb, leb, List, [], ◌∷◌, ◌++◌, length, get_or, Some, None, Option, sym, refl, ap, ◌∙◌, subst, arith}
-use Rattle.attributes.specs.AsPath.{Reading, got, fault, path_in}
+use Rattle.std.proofs.Common.{◌≡◌, ℕ, ◌+◌, ◌<◌, Bool, true, false, cond, ◌&&◌, eqb, ltb, List, [], ◌∷◌, ◌++◌, length, get_or, Some, None, Option, sym, refl, ap, ◌∙◌, arith}
+use Rattle.attributes.specs.AsPath.{got, fault, path_in}
 use Rattle.attributes.specs.Meaning.{Peer, no_fault}
 use Rattle.hearing.specs.Hearing.{Row, server_in, changed, route_by, no_route, followed_reading, hears_as, hears, hears_frame, hears_all, held_by}
 use Rattle.hearing.specs.Laws.{HearingLaws}
@@ -13,7 +13,7 @@ use Rattle.message_laws.proofs.Trips.{header_back}
 use Rattle.message_laws.proofs.Updates.{round_trip, sizes}
 use Rattle.message_laws.specs.RoundTrip.{Sendable}
 use Rattle.message_write.proofs.Messages.{message_long, body_steps}
-use Rattle.message_write.specs.Written.{header_bytes, keepalive_bytes, notification_bytes, open_body, open_bytes, withdrawal_body, withdrawal_bytes, announcement_body, announcement_bytes}
+use Rattle.message_write.specs.Written.{keepalive_bytes, notification_bytes, open_body, open_bytes, withdrawal_body, withdrawal_bytes, announcement_body, announcement_bytes}
 use Rattle.model.specs.Updates.{Update, Held, Sent, Begins, Tells, follows, held_after, tells}
 use Rattle.outbox.specs.Frames.{Frame, Carries, Closes, update_bytes, update_frame, update_frames}
 use Rattle.outbox.specs.Laws.{AllTellable}
@@ -21,9 +21,9 @@ use Rattle.outbox.specs.Outbox.{Tellable}
 use Rattle.prefix.proofs.Descent.{onto}
 use Rattle.prefix.specs.Prefix.{Prefix, is_prefix, number, prefix_of}
 use Rattle.route.specs.Route.{Route}
-use Rattle.std.proofs.lemmas.Bool.{cond_both, le-leb, cases_Bool}
-use Rattle.update.specs.Sections.{withdrawn_in, announced_in}
-use Rattle.update.specs.Update.{Attributes, Announces, Withdraws, Faulty, Content, runs_over, update_fault, announces, attributes_of, attributes_said, value_at, content_of, read_update}
+use Rattle.std.proofs.lemmas.Bool.{le-leb}
+use Rattle.update.specs.Sections.{withdrawn_in}
+use Rattle.update.specs.Update.{Attributes, Announces, Withdraws, Faulty, runs_over, update_fault, announces, attributes_of, attributes_said, value_at, content_of, read_update}
 use Rattle.wire.specs.Nlri.{named}
 
 -- messages that change nothing, and the OPEN

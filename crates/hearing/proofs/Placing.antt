@@ -1,5 +1,5 @@
 -- All that the server sends stands in its place. Assumes nothing.
-use Rattle.std.proofs.Common.{◌≡◌, ℕ, zero, suc, Bool, true, false, cond, ◌&&◌, eqb, ltb, leb, List, [], ◌∷◌, ◌++◌, length, Some, None, Option, sym, refl, ap, ◌∙◌, subst, arith}
+use Rattle.std.proofs.Common.{◌≡◌, ℕ, zero, suc, Bool, cond, ◌&&◌, eqb, ltb, leb, List, [], ◌∷◌, ◌++◌, length, Some, None, Option, sym, refl, ap, ◌∙◌, arith}
 use Rattle.hearing.specs.Laws.{PlacedLaws}
 use Rattle.hearing.specs.Placed.{Placed, AllPlaced}
 use Rattle.model.specs.Model.{Size, Event, Announces, Withdraws, Establishes, GoDown, PutInForce, Now, down, all_down, says, step, after, intended_in, sent}
@@ -13,7 +13,7 @@ use Rattle.route.specs.Numbers.{is_in}
 use Rattle.route.specs.Route.{Route, with_local_pref, with_med, with_path}
 use Rattle.route.specs.Same.{same_option}
 use Rattle.selection.proofs.Best.{laws as selection_laws}
-use Rattle.selection.specs.Intended.{Rules, Candidate, unless_ring, imported, selected, offered, unpreferred, exported_to, exported, intended}
+use Rattle.selection.specs.Intended.{Rules, Candidate, unless_ring, imported, selected, offered, unpreferred, exported_to, intended}
 use Rattle.std.proofs.lemmas.Bool.{cond_both, and_parts, eqb-true}
 
 some_none : (r : Route) → None ≡ Some r → ⊥

@@ -1,5 +1,5 @@
 -- Updates whose routes stand in their places. Assumes nothing.
-use Rattle.std.specs.Prelude.{◌≡◌, ℕ, List, [], ◌∷◌, Some}
+use Rattle.std.specs.Prelude.{◌≡◌, List, [], ◌∷◌, Some}
 use Rattle.model.specs.Updates.{Update}
 use Rattle.prefix.specs.Prefix.{number}
 use Rattle.route.specs.Route.{Route}

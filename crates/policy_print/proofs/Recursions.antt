@@ -1,5 +1,5 @@
 -- The steps of the recursions. Assumes nothing.
-use Rattle.std.proofs.Common.{ℕ, refl, ap, ◌∙◌, append_assoc, append-nil, add-one}
+use Rattle.std.proofs.Common.{ℕ, refl, ap, append_assoc, append-nil, add-one}
 use Rattle.policy_tables.specs.declared.Direction.{Direction}
 use Rattle.policy_print.specs.Printed.{clauses_text, lists_text, parts_text, policies_text, prefixes_text}
 use Rattle.policy_print.specs.Steps.{ClauseSteps, Joins, Lines, ListSteps, PartSteps, PolicySteps, PrefixSteps}

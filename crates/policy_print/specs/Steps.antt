@@ -1,5 +1,5 @@
 -- What a printing function appends, and one step of each recursion. Assumes nothing.
-use Rattle.std.specs.Prelude.{◌≡◌, ℕ, suc, ◌+◌, List, [], ◌∷◌, ◌++◌, None, codes, Result, OnOk, slice_index_or}
+use Rattle.std.specs.Prelude.{◌≡◌, ℕ, ◌+◌, List, [], ◌∷◌, ◌++◌, None, codes, Result, OnOk, slice_index_or}
 use Rattle.policy.specs.declared.Part.{Part}
 use Rattle.policy_clauses.specs.Reading.{Written}
 use Rattle.policy_tables.specs.Texts.{Content, place_of}

@@ -11,7 +11,6 @@ use policy::Clause;
 use policy_tables::{Direction, Policies};
 use std::alloc::{AllocError, Global};
 
-
 /// The policies as a text: lists first, then the policies for import and those for export by the number of the peer. Lists are called l0, l1, .. in their order.
 pub fn print(heap: Global, policies: &Policies) -> Result<String, AllocError>
     ensures { IfOk result (λ text. string_bytes text ≡ printed (content_of policies.now)) }
@@ -25,7 +24,11 @@ pub fn print(heap: Global, policies: &Policies) -> Result<String, AllocError>
 }
 
 /// Appends the policies of one direction.
-fn put_policies(text: &mut String, policies: &Policies, direction: Direction) -> Result<(), AllocError>
+fn put_policies(
+    text: &mut String,
+    policies: &Policies,
+    direction: Direction,
+) -> Result<(), AllocError>
     ensures { Puts (string_bytes text.old) (policies_text direction 64 (content_of policies.now)) (string_bytes text.new) result }
 {
     let _ = (policy_law(direction, 0), join_law());

@@ -14,8 +14,8 @@ use Rattle.policy_words.specs.Words.{is_ascii, joint_word, number_of}
 use Rattle.std.proofs.lemmas.Fmt.{decimal_nonempty}
 use Rattle.std.proofs.lemmas.Bool.{cond-true, le-leb}
 use Rattle.std.specs.List.{AllByRecursion as All}
-use Rattle.text_tokens.proofs.Plain.{Stops, blank_stops, line_stops, plain, token, word_behind}
-use Rattle.text_tokens.specs.Tokens.{Source, Between, Word}
+use Rattle.text_tokens.proofs.Plain.{Stops, blank_stops, line_stops, plain, word_behind}
+use Rattle.text_tokens.specs.Tokens.{Source, Between}
 use Rattle.policy_print_laws.specs.Limits.{ActionFits, ClauseFits, PartFits, TestFits}
 use Rattle.policy_print_laws.proofs.Spelling.{Plainly, ascii, letters, names_below, number_decimal, plain_decimal, plain_name, present}
 

@@ -1,6 +1,5 @@
 -- What is read is within the limits. Assumes nothing.
-use Rattle.std.proofs.Common.{◌≡◌, ℕ, zero, suc, ◌+◌, ◌-◌, ◌*◌, ◌^◌, ◌<◌, ◌≤◌, min, Bool, true, false, cond, not, ◌&&◌, ◌||◌, eqb, ltb, leb, List, [], ◌∷◌, ◌++◌, length, get_or, set, replicate, is_some, Some, None, codes, Option, sym, refl, ap, ◌∙◌, subst, ⊎_elim, arith, length-set}
-use Rattle.policy.specs.declared.Action.{Action}
+use Rattle.std.proofs.Common.{◌≡◌, ℕ, zero, suc, ◌+◌, ◌-◌, ◌*◌, ◌^◌, ◌<◌, ◌≤◌, min, Bool, true, false, cond, not, ◌&&◌, ◌||◌, ltb, leb, List, [], ◌∷◌, ◌++◌, length, get_or, set, replicate, is_some, Some, None, codes, Option, sym, refl, ap, ◌∙◌, subst, ⊎_elim, arith, length-set}
 use Rattle.policy.specs.declared.Action.TheVariants as an_action
 use Rattle.policy.specs.declared.Part.{Part}
 use Rattle.policy.specs.declared.Test.{Test}
@@ -13,7 +12,7 @@ use Rattle.policy_tables.specs.Texts.{Content, Draft, Outcome, Read, Refused, em
 use Rattle.policy_tables.specs.Texts as texts
 use Rattle.policy_tables.specs.declared.Direction.{Direction}
 use Rattle.policy_tables.specs.declared.Direction.TheVariants.{Import, Export}
-use Rattle.policy_words.specs.Words.{action_word, address_of, and_then, checked, if_done, is_ascii, is_name, item_word, joint_word, leading, leading_from, number_of, octet, octet_of, prefix_of, range_word, test_word}
+use Rattle.policy_words.specs.Words.{action_word, address_of, and_then, checked, if_done, is_ascii, item_word, joint_word, leading, leading_from, number_of, octet, prefix_of, range_word, test_word}
 use Rattle.policy_words.specs.declared.ActionWord.{ActionWord}
 use Rattle.policy_words.specs.declared.ActionWord.TheVariants as action
 use Rattle.policy_words.specs.declared.ItemWord.{ItemWord}

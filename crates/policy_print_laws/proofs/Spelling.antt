@@ -1,11 +1,11 @@
 -- Numbers, prefixes and names are read as they are printed. Assumes nothing.
-use Rattle.std.proofs.Common.{◌≡◌, ℕ, zero, suc, ◌+◌, ◌-◌, ◌*◌, ◌/◌, ◌%◌, ◌^◌, ◌<◌, ◌≤◌, Bool, true, false, cond, not, ◌&&◌, ◌||◌, eqb, ltb, leb, List, [], ◌∷◌, ◌++◌, length, Some, None, codes, decimal, Option, sym, refl, ap, ◌∙◌, subst, ⊎_elim, append_assoc, append-nil, arith}
+use Rattle.std.proofs.Common.{◌≡◌, ℕ, zero, suc, ◌+◌, ◌-◌, ◌*◌, ◌/◌, ◌%◌, ◌^◌, ◌<◌, ◌≤◌, Bool, true, false, cond, ◌&&◌, eqb, ltb, leb, List, [], ◌∷◌, ◌++◌, length, Some, None, decimal, Option, sym, refl, ap, ◌∙◌, ⊎_elim, append_assoc, append-nil, arith}
 use Rattle.policy_clauses.specs.Reading.{index_from, index_of}
 use Rattle.policy_print.specs.Printed.{name_text, prefix_text}
 use Rattle.policy_tables.proofs.Truths.{found_at_end, stays}
-use Rattle.policy_words.specs.Words.{address_of, and_then, are_name_bytes, checked, if_done, is_ascii, is_name, is_name_byte, is_name_start, leading, leading_from, number_of, octet, octet_of, prefix_of}
+use Rattle.policy_words.specs.Words.{address_of, and_then, are_name_bytes, checked, if_done, is_ascii, is_name, is_name_byte, leading, leading_from, number_of, octet, octet_of, prefix_of}
 use Rattle.prefix.specs.Prefix.{Prefix, is_prefix}
-use Rattle.std.proofs.lemmas.Fmt.{decimal_by_steps, decimal_nonempty, decimal_injective}
+use Rattle.std.proofs.lemmas.Fmt.{decimal_by_steps, decimal_injective}
 use Rattle.std.proofs.lemmas.Slice.Eq.{bytes_eq-Decides}
 use Rattle.std.proofs.lemmas.List.{length_push}
 use Rattle.std.proofs.lemmas.Bool.{and_from, and_parts, cases_Bool, cases_lt, cond-false, cond-true, leb-true, lt-ltb, ltb-true}

@@ -1,9 +1,8 @@
 -- Whole texts are read as they are printed. Assumes nothing.
-use Rattle.std.proofs.Common.{◌≡◌, ℕ, zero, suc, ◌+◌, ◌-◌, ◌*◌, ◌/◌, ◌%◌, ◌<◌, ◌≤◌, min, Bool, true, false, cond, not, ◌&&◌, ltb, leb, List, [], ◌∷◌, ◌++◌, length, get_or, take, drop, set, replicate, is_some, Some, None, codes, decimal, Option, sym, refl, ap, ◌∙◌, subst, ⊎_elim, append_assoc, append-nil, add-one, arith, length-append}
+use Rattle.std.proofs.Common.{◌≡◌, ℕ, zero, suc, ◌+◌, ◌-◌, ◌*◌, ◌/◌, ◌%◌, ◌<◌, ◌≤◌, min, true, cond, not, ◌&&◌, ltb, leb, List, [], ◌∷◌, ◌++◌, length, get_or, take, drop, set, replicate, is_some, Some, None, codes, decimal, Option, sym, refl, ap, ◌∙◌, subst, append_assoc, append-nil, arith, length-append}
 use Rattle.policy.specs.declared.Action.{Action}
 use Rattle.policy.specs.declared.Action.TheVariants as an_action
-use Rattle.policy_clauses.specs.Reading.{Reading, Got, Stop, Written, index_of, next, or_stop, word}
-use Rattle.policy_clauses.specs.declared.Awaited.{Awaited}
+use Rattle.policy_clauses.specs.Reading.{Reading, Got, Stop, Written, index_of, next, or_stop}
 use Rattle.policy_clauses.specs.declared.Awaited.TheVariants as awaited
 use Rattle.policy_items.specs.Items.{clauses, comma, equals, list_head, listed, opens, prefix, prefix_list, prefixes}
 use Rattle.policy_print.specs.Printed.{action_text, clause_text, clauses_text, direction_text, line_end, list_text, lists_text, name_text, parts_text, policies_text, policy_text, prefix_text, prefixes_text, printed}
@@ -17,12 +16,11 @@ use Rattle.policy_words.specs.Words.{is_ascii, is_name, number_of, prefix_of}
 use Rattle.prefix.specs.Prefix.{Prefix}
 use Rattle.std.proofs.lemmas.Fmt.{decimal_nonempty}
 use Rattle.std.proofs.lemmas.List.{get_or_at, length_push, length-take-le, set_at, take_all, take-append-drop, take_more}
-use Rattle.std.proofs.lemmas.Bool.{and_from, cond-true, le-leb, lt-ltb, not_from_false}
-use Rattle.std.proofs.lemmas.Bool.Decides.{nat_tests}
+use Rattle.std.proofs.lemmas.Bool.{and_from, cond-true, le-leb, lt-ltb}
 use Rattle.std.specs.List.{AllByRecursion as All}
 use Rattle.text_tokens.proofs.Plain.{Stops, blank_stops, comma_stops, first_fresh, is_fresh, line_stops, plain, unplaced_tokens}
 use Rattle.text_tokens.specs.Tokens.{Source, Between, Ended, More, tokens}
-use Rattle.policy_print_laws.specs.Limits.{ClauseFits, Fits, IsPrefix, ListFits, PolicyFits}
+use Rattle.policy_print_laws.specs.Limits.{Fits, IsPrefix, ListFits, PolicyFits}
 use Rattle.policy_print_laws.specs.Reprinted.{Reprinted}
 use Rattle.policy_print_laws.specs.RoundTrip.{RoundTrip}
 use Rattle.policy_print_laws.proofs.Clauses.{behind, clauses_read_lem, word_read}

@@ -20,7 +20,7 @@ use Rattle.model.specs.Updates.{Update}
 use Rattle.outbox.proofs.Rows.{told, put_out}
 use Rattle.outbox.specs.Frames.{Frame, Carries, frame_bytes, reaches_any, update_frames}
 use Rattle.outbox.specs.Laws.{Told, PutOut}
-use Rattle.outbox.specs.Outbox.{Box, Begun, Puts, SendsBy, box_of}
+use Rattle.outbox.specs.Outbox.{Begun, Puts, SendsBy, box_of}
 use Rattle.outbox.specs.declared.Outbox.{Outbox}
 use Rattle.peers.specs.Members.{is_member}
 use Rattle.prefix.specs.Prefix.{count}
@@ -34,16 +34,16 @@ use Rattle.session.specs.Session.{Session, down, sent_now, heard_now, is_establi
 use Rattle.session.specs.declared.Phase.{Phase}
 use Rattle.session.specs.declared.Phase.TheVariants.{Down, OpenSent, Established}
 use Rattle.sessions.specs.Sessions.{sent_to}
-use Rattle.speaker.specs.Serves.{Stands, Served, Serves, Finishes, with_outbox, Lifts}
+use Rattle.speaker.specs.Serves.{Stands, Served, Finishes, with_outbox, Lifts}
 use Rattle.speaker.specs.State.{State, Level, Addressed, Takes}
-use Rattle.speaker_model.proofs.Agreeing.{agree, StepAgrees, step_agrees, noted_down}
+use Rattle.speaker_model.proofs.Agreeing.{agree, step_agrees, noted_down}
 use Rattle.speaker_model.specs.Agree.{Agrees}
-use Rattle.speaker_model.specs.Effects.{Effect, taken_down, awaited_effect, established_effect, phase_effect, message_effect}
+use Rattle.speaker_model.specs.Effects.{taken_down, established_effect, phase_effect, message_effect}
 use Rattle.speaker_model.specs.World.{World, count_of, size_in, rules_at_start, now_in, member_of, Step, peer_step, step_by, step_of, noted, keepalives, keepalives_at, step_frames, frames_of, world_of, world_after}
 use Rattle.std.proofs.lemmas.Bool.{cases_lt, cond_both, and_parts, ltb-true}
 use Rattle.std.proofs.lemmas.Bool.Decides.{nat_tests as tests}
 use Rattle.update.specs.Update.{Content}
-use Rattle.update_events.specs.Words.{words, is_announced, needs_if, needs, needed, lacks_room}
+use Rattle.update_events.specs.Words.{words, is_announced, needs_if, needs, lacks_room}
 
 -- in the model a peer that there isn't has announced nothing
 abbrev Quiet : Size → Now → Type 0

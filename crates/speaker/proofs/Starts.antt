@@ -1,12 +1,9 @@
 -- Before the first frame, and from what is served to what is promised. Assumes nothing.
-use Rattle.std.proofs.Common.{◌≡◌, ℕ, ◌^◌, ◌<◌, ◌≤◌, cond, ltb, List, [], ◌∷◌, get_or, replicate, None, Option, sym, refl, ap, ◌∙◌, subst, ⊎_elim, arith}
+use Rattle.std.proofs.Common.{◌≡◌, ℕ, ◌^◌, ◌<◌, ◌≤◌, ltb, List, [], ◌∷◌, get_or, replicate, None, Option, refl, ap, ◌∙◌, subst, ⊎_elim, arith}
 use lib.ListN.{length-replicate}
 use Rattle.frame.specs.Frame.{Happening}
 use Rattle.frame.specs.Settings.{Exchange}
-use Rattle.model.specs.Model.{Now}
 use Rattle.model.specs.Stands as model
-use Rattle.outbox.specs.Outbox.{Begun, box_of}
-use Rattle.policy.specs.Policy.{Policy}
 use Rattle.policy_clauses.specs.Reading.{Written}
 use Rattle.policy_tables.specs.Texts.{Content, clauses_meant, nothing, place_of, policy_for}
 use Rattle.policy_tables.specs.declared.Direction.{Direction}
@@ -22,7 +19,7 @@ use Rattle.speaker_model.proofs.Agreeing.{agree}
 use Rattle.speaker_model.proofs.Bytes.{in_bytes}
 use Rattle.speaker_model.proofs.Keeping.{laws}
 use Rattle.speaker_model.specs.Promise.{AllTold}
-use Rattle.speaker_model.specs.World.{count_of, rules_at_start, size_in, world_after}
+use Rattle.speaker_model.specs.World.{count_of, rules_at_start, world_after}
 use Rattle.std.proofs.lemmas.List.{get_or_past, get_or-replicate}
 use Rattle.std.proofs.lemmas.Bool.{cases_lt, cond_both}
 

@@ -1,17 +1,17 @@
 -- From what the parts do to the steps that are taken. Assumes nothing.
-use Rattle.std.proofs.Common.{◌≡◌, ℕ, zero, suc, ◌<◌, ◌≤◌, Bool, true, false, cond, not, ◌&&◌, eqb, ltb, List, [], ◌∷◌, ◌++◌, length, get_or, is_some, Some, None, MatchBool, sym, refl, ap, ◌∙◌, subst, ⊎_elim, append-nil, arith}
+use Rattle.std.proofs.Common.{◌≡◌, ℕ, zero, suc, ◌<◌, ◌≤◌, Bool, true, false, not, ◌&&◌, eqb, ltb, List, [], ◌∷◌, length, get_or, is_some, Some, None, MatchBool, sym, refl, ap, ◌∙◌, subst, ⊎_elim, append-nil, arith}
 use Rattle.model.proofs.Chains.{none, one, join}
 use Rattle.model.proofs.Rows.{no_row, one_event}
 use Rattle.model.specs.Chain.{Chain}
-use Rattle.model.specs.Model.{Event, Establishes, GoDown, Now, at}
+use Rattle.model.specs.Model.{Event, Establishes, GoDown, at}
 use Rattle.model.specs.Rows.{PromisedAll}
 use Rattle.model.specs.Stands.{Promised}
 use Rattle.outbox.proofs.Rows.{put_out}
-use Rattle.outbox.specs.Frames.{Frame, Carries, Closes}
-use Rattle.outbox.specs.Outbox.{Box, box_of, Puts, SendsBy}
+use Rattle.outbox.specs.Frames.{Frame, Carries}
+use Rattle.outbox.specs.Outbox.{box_of, Puts, SendsBy}
 use Rattle.outbox.specs.declared.Outbox.{Outbox}
 use Rattle.server.specs.Meant.{size_of, members_below}
-use Rattle.session.specs.Session.{Session, down, opened, is_down, is_down_in, is_established, is_established_in}
+use Rattle.session.specs.Session.{Session, down, opened, is_down, is_down_in, is_established_in}
 use Rattle.session.specs.declared.Phase.TheVariants.{OpenSent}
 use Rattle.speaker.specs.Serves.{with_outbox}
 use Rattle.speaker.specs.State.{State, Level, Addressed, Takes}

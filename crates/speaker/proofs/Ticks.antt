@@ -1,7 +1,7 @@
 -- What goes out at a tick, peer by peer, and what a tick comes to. Assumes nothing.
-use Rattle.std.proofs.Common.{◌≡◌, ℕ, zero, suc, ◌+◌, ◌<◌, ◌≤◌, Bool, true, false, cond, ◌&&◌, ◌||◌, ltb, List, [], ◌∷◌, ◌++◌, length, take, sym, refl, ap, ◌∙◌, subst, ⊎_elim, append-nil, add-one, arith, length-take}
+use Rattle.std.proofs.Common.{◌≡◌, ℕ, zero, suc, ◌<◌, ◌≤◌, Bool, true, false, cond, ◌&&◌, ◌||◌, ltb, List, [], ◌∷◌, ◌++◌, length, take, sym, refl, ap, ◌∙◌, subst, ⊎_elim, add-one, arith, length-take}
 use Rattle.frame.specs.Frame.{Happening, tick}
-use Rattle.message_write.specs.Written.{keepalive_bytes, notification_bytes}
+use Rattle.message_write.specs.Written.{keepalive_bytes}
 use Rattle.model.proofs.Chains.{none, one, join}
 use Rattle.model.proofs.Rows.{no_row, one_event}
 use Rattle.model.specs.Chain.{Chain}
@@ -9,8 +9,8 @@ use Rattle.model.specs.Model.{Event, GoDown, Now}
 use Rattle.model.specs.Rows.{PromisedAll}
 use Rattle.model.specs.Stands.{Promised}
 use Rattle.outbox.proofs.Rows.{put_out}
-use Rattle.outbox.specs.Frames.{Frame, Carries, Closes, reaches_any}
-use Rattle.outbox.specs.Outbox.{Box, box_of, Puts, SendsBy}
+use Rattle.outbox.specs.Frames.{Carries, reaches_any}
+use Rattle.outbox.specs.Outbox.{box_of, Puts, SendsBy}
 use Rattle.outbox.specs.declared.Outbox.{Outbox}
 use Rattle.peers.specs.Members.{is_member}
 use Rattle.server.specs.Meant.{size_of, members_below}

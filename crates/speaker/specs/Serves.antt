@@ -1,5 +1,5 @@
 -- What is promised of one event in bytes, whatever came before. Assumes nothing.
-use Rattle.std.specs.Prelude.{◌≡◌, ℕ, ◌<◌, ◌≤◌, List, [], ◌∷◌}
+use Rattle.std.specs.Prelude.{◌≡◌, ℕ, ◌≤◌, List, ◌∷◌}
 use Rattle.frame.specs.Frame.{Happening}
 use Rattle.model.specs.Chain.{Chain}
 use Rattle.model.specs.Rows.{sent_all}

@@ -1,17 +1,14 @@
 -- What a speaker's state stands for, and what the inner steps do to it. Assumes nothing.
-use Rattle.std.specs.Prelude.{◌≡◌, ℕ, ◌<◌, ◌≤◌, Bool, List}
+use Rattle.std.specs.Prelude.{◌≡◌, ℕ, ◌<◌, ◌≤◌, List}
 use Rattle.frame.specs.Settings.{Exchange, exchange}
 use Rattle.model.specs.Chain.{Chain}
 use Rattle.model.specs.Model.{Now}
 use Rattle.model.specs.Rows.{PromisedAll}
-use Rattle.outbox.specs.Frames.{Frame}
-use Rattle.outbox.specs.Outbox.{Box, box_of, Puts, SendsBy}
+use Rattle.outbox.specs.Outbox.{box_of, Puts, SendsBy}
 use Rattle.outbox.specs.declared.Outbox.{Outbox}
-use Rattle.policy.specs.Policy.{Policy}
 use Rattle.policy_tables.specs.Meant.{content_of}
 use Rattle.policy_tables.specs.Texts.{policy_for}
 use Rattle.policy_tables.specs.declared.Direction.TheVariants.{Import, Export}
-use Rattle.policy_tables.specs.declared.Policies.{Policies}
 use Rattle.rib.specs.Received.{Received, most_peers}
 use Rattle.server.specs.Meant.{now_of, size_of}
 use Rattle.session.specs.Session.{Session, down, is_established}

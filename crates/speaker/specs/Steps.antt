@@ -1,5 +1,5 @@
 -- Facts that the code cites. Assumes nothing.
-use Rattle.std.specs.Prelude.{◌≡◌, ℕ, ◌+◌, Bool, true, false, ◌||◌, List, [], ◌∷◌}
+use Rattle.std.specs.Prelude.{◌≡◌, ℕ, ◌+◌, Bool, true, false, ◌||◌, List}
 use Rattle.message_write.specs.Written.{keepalive_bytes}
 use Rattle.model.specs.Chain.{Chain}
 use Rattle.outbox.specs.Frames.{Carries}

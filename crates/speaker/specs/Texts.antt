@@ -1,5 +1,5 @@
 -- What is answered to a policy text. Assumes nothing.
-use Rattle.std.specs.Prelude.{◌≡◌, ℕ, List, Some, None, Option, MatchOption}
+use Rattle.std.specs.Prelude.{◌≡◌, ℕ, List, None, Option, MatchOption}
 use Rattle.configuration.specs.declared.TextRefusal.{TextRefusal}
 use Rattle.frame.specs.Frame.{Happening, message, up, tick, policy_text}
 use Rattle.frame.specs.Frame as frame

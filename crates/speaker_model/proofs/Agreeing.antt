@@ -1,5 +1,5 @@
 -- The sessions and the model's events go together. Assumes nothing.
-use Rattle.std.proofs.Common.{◌≡◌, ℕ, zero, suc, ◌<◌, ◌≤◌, Bool, true, false, cond, not, ◌&&◌, ◌||◌, eqb, ltb, leb, List, [], ◌∷◌, ◌++◌, sym, refl, ap, ◌∙◌, subst, ⊎_elim, arith}
+use Rattle.std.proofs.Common.{◌≡◌, ℕ, zero, suc, ◌<◌, ◌≤◌, Bool, true, false, cond, not, ◌&&◌, eqb, ltb, List, [], ◌∷◌, sym, refl, ap, ◌∙◌, subst, ⊎_elim, arith}
 use Rattle.attributes.specs.AsPath.{Reading, got, fault}
 use Rattle.attributes.specs.Meaning.{Peer}
 use Rattle.frame.specs.Frame.{Happening, message, up, tick, policy_text}
@@ -9,24 +9,22 @@ use Rattle.message.specs.Message.{Message, Opens, Updates, Notifies, KeepsAlive,
 use Rattle.message.specs.declared.State.TheVariants as at
 use Rattle.model.specs.Model.{Event, Establishes, GoDown, PutInForce, Now, all_down, step, after}
 use Rattle.model.specs.Model as model
-use Rattle.model.specs.Rows.{then_all}
 use Rattle.outbox.specs.Frames.{Frame, reaches_any}
 use Rattle.policy_tables.specs.Texts.{Outcome, Read, Refused, meaning}
 use Rattle.rib.specs.Received.{Received, most_peers}
 use Rattle.server.proofs.Steps.{members_alike}
 use Rattle.server.specs.Meant.{size_of, members_below}
-use Rattle.session.specs.Session.{Session, down, is_down, is_established_in, is_established, is_open_sent_in, opened, established, heard_now, sent_now, ticked, is_silent}
+use Rattle.session.specs.Session.{Session, down, is_down, is_established_in, is_established, is_open_sent_in, heard_now, sent_now, ticked, is_silent}
 use Rattle.session.specs.declared.Phase.{Phase}
 use Rattle.session.specs.declared.Phase.TheVariants.{Down, OpenSent, Established}
 use Rattle.speaker_model.proofs.Runs.{runs, after_row, runs_none, runs_one, Apart, apart_same, elsewhere, right_there, down_apart, establishes_apart, goes_down}
 use Rattle.speaker_model.proofs.Saying.{words_apart, all_said}
 use Rattle.speaker_model.specs.Agree.{Agrees}
-use Rattle.speaker_model.specs.Effects.{Effect, nothing, going_down, taken_down, update_effect, awaited_effect, established_effect, phase_effect, message_effect, up_effect, loss_effect, text_row}
+use Rattle.speaker_model.specs.Effects.{Effect, nothing, going_down, taken_down, awaited_effect, established_effect, phase_effect, message_effect, up_effect, loss_effect, text_row}
 use Rattle.sessions.specs.Sessions.{silent_in, sessions_later}
-use Rattle.speaker_model.specs.World.{World, count_of, size_in, rules_at_start, now_in, member_of, Step, no_step, peer_step, any_below, down_row, tick_step, step_of, noted, frames_of, world_of, world_at_start, world_after}
-use Rattle.std.proofs.lemmas.Bool.{cases_Bool, cases_eq, cases_lt, cond-true, cond-false, cond_both, or_parts, eq-eqb, ne_eqb, lt-ltb, ltb-true, ltb-false, both_ways}
+use Rattle.speaker_model.specs.World.{World, count_of, size_in, rules_at_start, now_in, member_of, Step, no_step, peer_step, any_below, down_row, step_of, noted, frames_of, world_of, world_at_start, world_after}
+use Rattle.std.proofs.lemmas.Bool.{cases_Bool, cases_eq, cond-true, cond-false, cond_both, or_parts, eq-eqb, ltb-true, both_ways}
 use Rattle.std.proofs.lemmas.Bool.Decides.{nat_tests as tests}
-use Rattle.update.specs.Update.{Content}
 use Rattle.update_events.specs.Words.{words, lacks_room}
 
 -- what is noted of what was sent changes no phase

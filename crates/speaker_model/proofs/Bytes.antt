@@ -1,5 +1,5 @@
 -- What is promised of the bytes that go out. Assumes nothing.
-use Rattle.std.proofs.Common.{◌≡◌, ℕ, ◌^◌, ◌<◌, ◌≤◌, Bool, true, false, cond, List, [], ◌∷◌, ◌++◌, Some, None, Option, sym, refl, ap, ◌∙◌, subst}
+use Rattle.std.proofs.Common.{◌≡◌, ℕ, ◌^◌, ◌<◌, ◌≤◌, Bool, true, false, List, [], ◌∷◌, ◌++◌, Some, refl, ap, ◌∙◌, subst}
 use Rattle.attributes.specs.AsPath.{Reading, got, fault}
 use Rattle.attributes.specs.Meaning.{Peer}
 use Rattle.frame.specs.Frame.{Happening}
@@ -19,13 +19,11 @@ use Rattle.model.proofs.Ordering.{All}
 use Rattle.model.proofs.Promises.{exact}
 use Rattle.model.specs.Model.{after}
 use Rattle.model.specs.Rows.{sent_all}
-use Rattle.model.specs.Updates.{Update, Held, Tells, tells, follows, held_after}
+use Rattle.model.specs.Updates.{Update, Tells, tells, follows, held_after}
 use Rattle.outbox.specs.Frames.{Frame, Carries, update_frame, update_frames}
 use Rattle.outbox.specs.Laws.{AllTellable}
 use Rattle.outbox.specs.Outbox.{Tellable}
-use Rattle.prefix.specs.Prefix.{count}
 use Rattle.rib.specs.Received.{most_peers}
-use Rattle.session.specs.Session.{is_established}
 use Rattle.session.specs.declared.Phase.TheVariants.{Down}
 use Rattle.speaker_model.proofs.Agreeing.{agree}
 use Rattle.speaker_model.proofs.Holding.{Hears, AllNew, new_append, new_at}

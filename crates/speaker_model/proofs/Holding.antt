@@ -1,12 +1,12 @@
 -- What peers hold by the frames that were sent, and by the model's events. Assumes nothing.
-use Rattle.std.proofs.Common.{◌≡◌, ℕ, ◌<◌, Bool, true, false, cond, ◌&&◌, eqb, List, [], ◌∷◌, ◌++◌, Some, None, Option, sym, refl, ap, ◌∙◌, subst, ⊎_elim, append_assoc, append-nil, arith}
+use Rattle.std.proofs.Common.{◌≡◌, ℕ, ◌<◌, Bool, true, false, cond, ◌&&◌, eqb, List, [], ◌∷◌, ◌++◌, Some, None, Option, sym, refl, ap, ◌∙◌, subst, append_assoc, append-nil, arith}
 use Rattle.message.specs.Header.{kind_of}
 use Rattle.message.specs.declared.Kind.TheVariants as a_kind
 use Rattle.message_write.specs.Written.{keepalive_bytes, notification_bytes, open_bytes}
 use Rattle.model.proofs.Equality.{option_same}
 use Rattle.model.proofs.Ordering.{All, ToUp, updates_to_up}
-use Rattle.model.proofs.Telling.{tells_append, held_append, Fresh, updates_fresh}
-use Rattle.model.specs.Model.{Size, Event, Announces, Withdraws, Establishes, GoDown, PutInForce, Now, step, after, intended_in, begins, history, holds, sent}
+use Rattle.model.proofs.Telling.{held_append, Fresh, updates_fresh}
+use Rattle.model.specs.Model.{Size, Event, Now, step, after, intended_in, begins, history, holds, sent}
 use Rattle.model.specs.Rows.{then_all, sent_all}
 use Rattle.model.specs.Updates.{Update, Held, Sent, Begins, Tells, tells, follows, held_after}
 use Rattle.model.specs.Updates as model
@@ -14,7 +14,6 @@ use Rattle.outbox.specs.Frames.{Frame, Carries, Closes, update_frame, update_fra
 use Rattle.route.specs.Route.{Route}
 use Rattle.route.specs.Same.{same_option}
 use Rattle.selection.specs.Intended.{Rules}
-use Rattle.speaker_model.proofs.Runs.{elsewhere}
 use Rattle.std.proofs.lemmas.Bool.{both_ways}
 use Rattle.std.proofs.lemmas.Bool.Decides.{nat_tests as tests}
 

@@ -1,19 +1,16 @@
 -- What is promised of each frame that comes in. Assumes nothing.
-use Rattle.std.proofs.Common.{◌≡◌, ℕ, ◌<◌, ◌≤◌, Bool, true, false, cond, ◌&&◌, ◌||◌, eqb, ltb, List, [], ◌∷◌, ◌++◌, Option, sym, refl, ap, ◌∙◌, subst, ⊎_elim, arith}
-use Rattle.attributes.specs.AsPath.{Reading, got, fault}
+use Rattle.std.proofs.Common.{◌≡◌, ℕ, ◌<◌, ◌≤◌, true, false, cond, ◌&&◌, eqb, ltb, List, [], ◌++◌, Option, sym, refl, ap, ◌∙◌, subst, arith}
 use Rattle.frame.specs.Frame.{Happening, message, up, tick, policy_text}
 use Rattle.frame.specs.Frame as frame
 use Rattle.frame.specs.Settings.{Exchange}
-use Rattle.message.specs.Message.{Message, Updates, read_message}
-use Rattle.message.specs.declared.State.TheVariants as at
 use Rattle.model.specs.Model.{Now}
 use Rattle.model.specs.Rows.{then_all, sent_all}
-use Rattle.outbox.specs.Frames.{Frame, update_frames, reaches_any}
+use Rattle.outbox.specs.Frames.{update_frames, reaches_any}
 use Rattle.policy_tables.specs.Texts.{Outcome, Refused, meaning}
 use Rattle.prefix.specs.Prefix.{count}
 use Rattle.rib.specs.Received.{most_peers}
 use Rattle.route.specs.Route.{Route}
-use Rattle.session.specs.Session.{Session, is_down_in, is_down, is_established_in, is_established, heard_now}
+use Rattle.session.specs.Session.{Session, is_down_in, is_down, is_established_in, heard_now}
 use Rattle.session.specs.declared.Phase.{Phase}
 use Rattle.session.specs.declared.Phase.TheVariants.{Down, OpenSent, Established}
 use Rattle.speaker_model.proofs.Agreeing.{noted_phase, message_apart, up_apart, loss_apart}
@@ -22,11 +19,11 @@ use Rattle.speaker_model.proofs.Saying.{said, all_said}
 use Rattle.speaker_model.specs.Agree.{Agrees}
 use Rattle.speaker_model.specs.Effects.{Effect, nothing, taken_down, established_effect, phase_effect, message_effect, up_effect, loss_effect, text_row}
 use Rattle.speaker_model.specs.Laws.{Taken, NoWordLost, is_of, Untouched, Unmoved, WorldLaws}
-use Rattle.speaker_model.specs.World.{World, count_of, size_in, rules_at_start, now_in, member_of, Step, no_step, peer_step, step_of, noted, keepalives_at, step_frames, frames_of, world_of}
-use Rattle.std.proofs.lemmas.Bool.{cases_eq, cond-true, cond-false, cond_both, eqb-true, both_ways}
+use Rattle.speaker_model.specs.World.{World, count_of, size_in, rules_at_start, now_in, member_of, no_step, peer_step, step_of, noted, keepalives_at, step_frames, frames_of, world_of}
+use Rattle.std.proofs.lemmas.Bool.{cond-false, cond_both, eqb-true, both_ways}
 use Rattle.std.proofs.lemmas.Bool.Decides.{nat_tests as tests}
 use Rattle.update.specs.Update.{Content}
-use Rattle.update_events.specs.Words.{is_withdrawn, is_announced, last_word, words, lacks_room}
+use Rattle.update_events.specs.Words.{words, lacks_room}
 
 established_is : (phase : Phase) → is_established_in phase ≡ true → phase ≡ Established
 established_is Down h = absurd (both_ways false refl h)

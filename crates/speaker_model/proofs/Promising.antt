@@ -1,13 +1,10 @@
 -- By the frames that went out each peer holds what the model says. Assumes nothing.
-use Rattle.std.proofs.Common.{◌≡◌, ℕ, zero, suc, ◌<◌, ◌≤◌, Bool, true, false, cond, ◌&&◌, ◌||◌, eqb, ltb, leb, List, [], ◌∷◌, ◌++◌, Some, None, Option, sym, refl, ap, ◌∙◌, subst, ⊎_elim, append_assoc, append-nil, arith}
+use Rattle.std.proofs.Common.{◌≡◌, ℕ, zero, suc, ◌<◌, Bool, true, false, cond, ◌&&◌, ◌||◌, eqb, ltb, leb, List, [], ◌∷◌, ◌++◌, Some, None, Option, sym, refl, ap, ◌∙◌, subst, ⊎_elim, append_assoc, append-nil, arith}
 use Rattle.attributes.specs.AsPath.{Reading, got, fault}
-use Rattle.attributes.specs.Meaning.{Peer}
 use Rattle.frame.specs.Frame.{Happening, message, up, tick, policy_text}
 use Rattle.frame.specs.Frame as frame
 use Rattle.frame.specs.Settings.{Exchange}
-use Rattle.message.specs.Header.{kind_of}
 use Rattle.message.specs.Message.{Message, Opens, Updates, Notifies, KeepsAlive, read_message}
-use Rattle.message.specs.declared.Kind.TheVariants as a_kind
 use Rattle.message.specs.declared.State.TheVariants as at
 use Rattle.message_write.specs.Written.{keepalive_bytes, notification_bytes, open_bytes}
 use Rattle.model.proofs.Ordering.{All}
@@ -17,20 +14,20 @@ use Rattle.model.specs.Rows.{then_all, sent_all}
 use Rattle.model.specs.Updates.{Update, Held, held_after}
 use Rattle.outbox.specs.Frames.{Frame, Carries, Closes, update_frames}
 use Rattle.policy_tables.specs.Texts.{Outcome, Read, Refused, meaning}
-use Rattle.rib.specs.Received.{updated, stored, most_peers}
+use Rattle.rib.specs.Received.{updated, stored}
 use Rattle.route.specs.Route.{Route}
 use Rattle.session.specs.Session.{Session, down, is_down, is_established_in, is_established, is_open_sent_in, is_keepalive_due, opened, established, heard_now, ticked}
 use Rattle.server.specs.Meant.{members_below}
 use Rattle.session.specs.declared.Phase.{Phase}
 use Rattle.session.specs.declared.Phase.TheVariants.{Down, OpenSent, Established}
 use Rattle.speaker_model.proofs.Agreeing.{noted_phase, ticked_phase}
-use Rattle.speaker_model.proofs.Holding.{Hears, before, AllNew, new_append, NoUpdates, no_updates_append, no_updates_new, Follows, Ready, one_follows, one_silent, one_new, Words, RowFollows, no_row, words_follow}
-use Rattle.speaker_model.proofs.Runs.{Apart, elsewhere, right_there, establishes_apart}
+use Rattle.speaker_model.proofs.Holding.{Hears, before, AllNew, new_append, NoUpdates, no_updates_append, no_updates_new, Follows, Ready, one_follows, one_silent, one_new, Words, RowFollows, words_follow}
+use Rattle.speaker_model.proofs.Runs.{Apart, elsewhere, establishes_apart}
 use Rattle.speaker_model.specs.Agree.{Agrees}
-use Rattle.speaker_model.specs.Effects.{Effect, nothing, going_down, fault_frames, taken_down, awaited_effect, established_effect, phase_effect, message_effect, up_effect, loss_effect, text_row}
+use Rattle.speaker_model.specs.Effects.{Effect, nothing, going_down, fault_frames, taken_down, awaited_effect, established_effect, phase_effect, up_effect, text_row}
 use Rattle.sessions.specs.Sessions.{silent_in, sessions_later}
-use Rattle.speaker_model.specs.World.{World, count_of, size_in, rules_at_start, now_in, member_of, Step, no_step, peer_step, any_below, down_row, down_frames, tick_step, step_of, noted, keepalives, keepalives_at, step_frames, frames_of, world_of}
-use Rattle.std.proofs.lemmas.Bool.{cases_Bool, cases_eq, cond-true, cond-false, cond_both, eq-eqb, eqb-true, both_ways}
+use Rattle.speaker_model.specs.World.{World, count_of, size_in, rules_at_start, now_in, member_of, Step, no_step, peer_step, any_below, down_frames, tick_step, step_of, noted, keepalives, keepalives_at, step_frames, frames_of, world_of}
+use Rattle.std.proofs.lemmas.Bool.{cases_eq, cond-true, cond_both, eq-eqb, both_ways}
 use Rattle.std.proofs.lemmas.Bool.Decides.{nat_tests as tests}
 use Rattle.update.specs.Update.{Content}
 use Rattle.update_events.specs.Words.{is_withdrawn, is_announced, last_word, word_on, words_at, words_below, words, lacks_room}

@@ -1,8 +1,8 @@
 -- What counts after a row of events, one after the other. Assumes nothing.
-use Rattle.std.proofs.Common.{◌≡◌, ℕ, ◌<◌, ◌≤◌, Bool, true, false, cond, ◌&&◌, eqb, ltb, leb, List, [], ◌∷◌, ◌++◌, Some, None, Option, sym, refl, ap, ◌∙◌, arith}
-use Rattle.model.specs.Model.{Size, Event, Announces, Withdraws, Establishes, GoDown, PutInForce, Now, at, down, all_down, says, step, after}
+use Rattle.std.proofs.Common.{◌≡◌, ℕ, true, false, cond, ◌&&◌, eqb, ltb, leb, List, [], ◌∷◌, ◌++◌, None, Option, refl, ◌∙◌, arith}
+use Rattle.model.specs.Model.{Size, Event, Establishes, GoDown, Now, down, all_down, says, step, after}
 use Rattle.model.specs.Rows.{then_all}
-use Rattle.rib.specs.Received.{Received, updated, cleared, stored}
+use Rattle.rib.specs.Received.{updated, stored}
 use Rattle.route.specs.Route.{Route}
 use Rattle.selection.specs.Intended.{Rules}
 use Rattle.std.proofs.lemmas.Bool.{cond_both}

@@ -1,9 +1,9 @@
 -- An UPDATE for which there is room: every word of it counts. Assumes nothing.
-use Rattle.std.proofs.Common.{◌≡◌, ℕ, zero, suc, ◌+◌, ◌<◌, ◌≤◌, Bool, true, false, cond, not, ◌&&◌, ◌||◌, eqb, ltb, leb, List, [], ◌∷◌, ◌++◌, Some, None, Option, sym, refl, ap, ◌∙◌, subst, ⊎_elim, arith}
-use Rattle.model.specs.Model.{Size, Event, Announces, Withdraws, Now, down, says, step}
+use Rattle.std.proofs.Common.{◌≡◌, ℕ, zero, suc, ◌+◌, ◌<◌, ◌≤◌, Bool, true, false, cond, ◌&&◌, ◌||◌, eqb, ltb, leb, List, [], ◌∷◌, Some, Option, sym, refl, ap, ◌∙◌, subst, ⊎_elim, arith}
+use Rattle.model.specs.Model.{Size, Now, down, says, step}
 use Rattle.prefix.proofs.Descent.{onto}
-use Rattle.prefix.specs.Prefix.{number, prefix_of, count}
-use Rattle.rib.specs.Received.{Received, updated, is_route, count_of, stored, capacity, most_peers}
+use Rattle.prefix.specs.Prefix.{count}
+use Rattle.rib.specs.Received.{Received, updated, is_route, stored, capacity, most_peers}
 use Rattle.route.specs.Route.{Route}
 use Rattle.server.specs.Meant.{size_of}
 use Rattle.speaker_model.proofs.Counts.{stored_within, stored_rises}

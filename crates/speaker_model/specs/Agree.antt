@@ -1,5 +1,5 @@
 -- The sessions and the model's events go together. Assumes nothing.
-use Rattle.std.specs.Prelude.{◌≡◌, ℕ, ◌<◌, ◌≤◌, false, List}
+use Rattle.std.specs.Prelude.{◌≡◌, ℕ, ◌<◌, ◌≤◌, List}
 use Rattle.frame.specs.Frame.{Happening}
 use Rattle.frame.specs.Settings.{Exchange}
 use Rattle.rib.specs.Received.{most_peers}

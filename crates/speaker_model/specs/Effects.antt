@@ -1,5 +1,5 @@
 -- What one message, one loss of a connection, or one text does: to the peer's session, in frames that go out at once, and as a row of the model's events. Assumes nothing.
-use Rattle.std.specs.Prelude.{ℕ, Bool, true, false, cond, List, [], ◌∷◌}
+use Rattle.std.specs.Prelude.{ℕ, cond, List, [], ◌∷◌}
 use Rattle.attributes.specs.AsPath.{Reading, got, fault}
 use Rattle.attributes.specs.Meaning.{Peer}
 use Rattle.message.specs.Message.{Message, Opens, Updates, Notifies, KeepsAlive, read_message}

@@ -1,6 +1,5 @@
 use Rattle.std.proofs.Common.{cond, eqb, sym, refl, ap, ◌∙◌, arith}
 use Rattle.session.specs.Session.{is_down, opened}
-use Rattle.sessions.specs.Sessions.{sessions_of}
 use Rattle.speaker.proofs.Steps.{up_busy, up_opens, up_unknown}
 use Rattle.speaker.specs.State.{state_of}
 use Rattle.speaker.proofs.Speaker.connect.Goals as goal

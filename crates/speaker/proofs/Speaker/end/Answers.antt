@@ -3,7 +3,6 @@ use Rattle.outbox.specs.Outbox.{Puts}
 use Rattle.speaker.proofs.Steps.{before}
 use Rattle.speaker.specs.State.{state_of}
 use Rattle.speaker.proofs.Speaker.end.Goals as goal
-use Rattle.std.proofs.Common.{rules}
 
 pub returns : goal.returns
 returns g c =

@@ -1,4 +1,4 @@
-use Rattle.std.proofs.Common.{cond, eqb, sym, refl, ap, ◌∙◌, rules}
+use Rattle.std.proofs.Common.{cond, eqb, refl, ap, ◌∙◌}
 use Rattle.model.proofs.Chains.{one}
 use Rattle.outbox.specs.Outbox.{Puts}
 use Rattle.session.specs.Session.{established}

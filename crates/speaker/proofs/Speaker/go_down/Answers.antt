@@ -1,4 +1,4 @@
-use Rattle.std.proofs.Common.{cond, eqb, sym, refl, ap, ◌∙◌, subst, rules}
+use Rattle.std.proofs.Common.{cond, eqb, refl, ap, ◌∙◌}
 use Rattle.peers.specs.Members.{is_member}
 use Rattle.sessions.specs.Sessions.{sessions_of}
 use Rattle.speaker.proofs.Steps.{goes_down}

@@ -1,4 +1,4 @@
-use Rattle.std.proofs.Common.{cond, eqb, sym, refl, ap, ◌∙◌, rules}
+use Rattle.std.proofs.Common.{cond, eqb, refl, ap, ◌∙◌}
 use Rattle.session.specs.Session.{heard_now}
 use Rattle.sessions.specs.Sessions.{sessions_of}
 use Rattle.speaker.proofs.Steps.{goes_on}

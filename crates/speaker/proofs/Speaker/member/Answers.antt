@@ -1,4 +1,4 @@
-use Rattle.std.proofs.Common.{sym, ◌∙◌, rules}
+use Rattle.std.proofs.Common.{sym, ◌∙◌}
 use Rattle.frame.specs.Settings.{exchange}
 use Rattle.speaker.proofs.Steps.{member_outside}
 use Rattle.speaker.proofs.Speaker.member.Goals as goal

@@ -1,7 +1,6 @@
 use Rattle.std.proofs.Common.{sym, refl, ap, ◌∙◌, subst}
 use Rattle.model.specs.Model.{at}
 use Rattle.session.specs.declared.Phase.{Phase}
-use Rattle.sessions.specs.Sessions.{sessions_of}
 use Rattle.speaker.proofs.Steps.{goes_on, same_at}
 use Rattle.speaker.specs.State.{Takes, state_of}
 use Rattle.speaker_model.specs.Effects.{phase_effect}

@@ -1,4 +1,4 @@
-use Rattle.std.proofs.Common.{◌≡◌, true, false, sym, refl, ap, ◌∙◌, subst}
+use Rattle.std.proofs.Common.{◌≡◌, true, false, sym, refl, subst}
 use Rattle.model.specs.Chain.{Chain}
 use Rattle.outbox.specs.Outbox.{Puts, box_of}
 use Rattle.peers.specs.Members.{is_member}
