@@ -9,7 +9,7 @@ use Rattle.policy_clauses.specs.Reading.{Written}
 use Rattle.policy_tables.specs.Texts.{Content, place_of}
 use Rattle.policy_tables.specs.declared.Direction.{Direction}
 use Rattle.prefix.specs.Prefix.{Prefix, is_prefix}
-use Rattle.std.specs.List.{AllByRecursion as All}
+use Rattle.std.specs.List.{AllByRecursion}
 
 abbrev pub IsPrefix : Prefix → Type 0
 IsPrefix p = is_prefix p.address p.length ≡ true
@@ -18,7 +18,7 @@ IsPrefix p = is_prefix p.address p.length ≡ true
 pub record ListFits (list : List Prefix) : Type 0 where
   pub some : 1 ≤ length list
   pub few : length list ≤ 64
-  pub all : All IsPrefix list
+  pub all : AllByRecursion IsPrefix list
 
 -- numbers have 32 bits, and a list is one of so many
 abbrev pub TestFits : ℕ → Test → Type 0
@@ -45,18 +45,18 @@ ActionFits (an_action.Prepend asn times) = (asn < 2 ^ 32) × (times ≤ 8)
 pub record ClauseFits (lists : ℕ) (c : Written) : Type 0 where
   pub some : 1 ≤ length c.parts
   pub few : length c.parts ≤ 16
-  pub parts : All (PartFits lists) c.parts
+  pub parts : AllByRecursion (PartFits lists) c.parts
   pub action : ActionFits c.action
 
 -- at most 256 clauses, and the peer is one of the server's
 pub record PolicyFits (lists peers peer : ℕ) (cs : List Written) : Type 0 where
   pub known : peer < peers
   pub few : length cs ≤ 256
-  pub all : All (ClauseFits lists) cs
+  pub all : AllByRecursion (ClauseFits lists) cs
 
 -- at most 64 lists; two policies, that may be missing, for each of 64 peers
 pub record Fits (peers : ℕ) (c : Content) : Type 0 where
   pub few_lists : length c.lists ≤ 64
-  pub lists : All ListFits c.lists
+  pub lists : AllByRecursion ListFits c.lists
   pub row : length c.policies ≡ 128
   pub policies : (direction : Direction) (peer : ℕ) (cs : List Written) → peer < 64 → slice_index_or c.policies (place_of direction peer) None ≡ Some cs → PolicyFits (length c.lists) peers peer cs
