@@ -48,7 +48,7 @@ fn any_fits(rt: HostRuntime) -> Result<(), Fail> {
 #[test]
 fn lists_of_0_and_1(rt: HostRuntime) -> Result<(), Fail> {
     let near = prefix([10, 0, 0, 0], 16)?;
-    asks(&rt, list(&[])?, near, false, false)?;
+    asks(&rt, list(&rt, &[])?, near, false, false)?;
     asks(&rt, sixteens(&rt, 1)?, near, true, true)?;
     asks(
         &rt,
@@ -87,16 +87,16 @@ fn lists_of_64(rt: HostRuntime) -> Result<(), Fail> {
 
 #[test]
 fn length_0_and_24(rt: HostRuntime) -> Result<(), Fail> {
-    let all = list(&[Prefix::whole()])?;
+    let all = list(&rt, &[Prefix::whole()])?;
     let last = prefix([255, 255, 255, 0], 24)?;
     asks(&rt, all, Prefix::whole(), true, true)?;
     asks(&rt, all, prefix([0, 0, 0, 0], 24)?, false, true)?;
     asks(&rt, all, last, false, true)?;
-    asks(&rt, list(&[last])?, last, true, true)?;
-    asks(&rt, list(&[last])?, Prefix::whole(), false, false)?;
+    asks(&rt, list(&rt, &[last])?, last, true, true)?;
+    asks(&rt, list(&rt, &[last])?, Prefix::whole(), false, false)?;
     asks(
         &rt,
-        list(&[last])?,
+        list(&rt, &[last])?,
         prefix([255, 255, 254, 0], 24)?,
         false,
         false,
@@ -106,7 +106,7 @@ fn length_0_and_24(rt: HostRuntime) -> Result<(), Fail> {
 /// A list that is not there holds nothing; of those that are there the number says which.
 #[test]
 fn lists_by_number(rt: HostRuntime) -> Result<(), Fail> {
-    let lists = [list(&[])?, list(&[Prefix::whole()])?];
+    let lists = [list(&rt, &[])?, list(&rt, &[Prefix::whole()])?];
     let route = route_of(Prefix::whole())?;
     assert!(rt; !fits(&rt, Test::PrefixIn { list: 0 }, &lists, &route)?);
     assert!(rt; fits(&rt, Test::PrefixIn { list: 1 }, &lists, &route)?);
@@ -183,7 +183,7 @@ fn communities_on_the_route(rt: HostRuntime) -> Result<(), Fail> {
 fn conditions_of_0_to_16_parts(rt: HostRuntime) -> Result<(), Fail> {
     let route = route_of(Prefix::whole())?;
     assert!(rt; Condition::new().holds(&[], &route));
-    let mut most = condition(&[(IS, Test::Any); 16])?;
+    let mut most = condition(&rt, &[(IS, Test::Any); 16])?;
     assert!(rt; most.holds(&[], &route));
     assert!(rt;
         !most.push(Part {
@@ -194,6 +194,6 @@ fn conditions_of_0_to_16_parts(rt: HostRuntime) -> Result<(), Fail> {
     assert!(rt; most.holds(&[], &route));
     let mut parts = [(IS, Test::Any); 16];
     parts[15] = (NOT, Test::Any);
-    assert!(rt; !condition(&parts)?.holds(&[], &route));
+    assert!(rt; !condition(&rt, &parts)?.holds(&[], &route));
     Ok(())
 }

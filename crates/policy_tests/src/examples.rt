@@ -32,10 +32,10 @@ pub fn route(prefix: Prefix, path: &[u32], communities: &[u32]) -> Result<Route,
 }
 
 /// The list of these prefixes.
-pub fn list(prefixes: &[Prefix]) -> Result<PrefixList, Fail> {
+pub fn list(rt: &impl Abort, prefixes: &[Prefix]) -> Result<PrefixList, Fail> {
     let mut list = PrefixList::new();
     for prefix in prefixes {
-        assert!(list.push(*prefix));
+        assert!(rt; list.push(*prefix));
     }
     Ok(list)
 }
@@ -46,13 +46,15 @@ pub const IS: bool = false;
 pub const NOT: bool = true;
 
 /// The condition that has these parts.
-pub fn condition(parts: &[(bool, Test)]) -> Result<Condition, Fail> {
+pub fn condition(rt: &impl Abort, parts: &[(bool, Test)]) -> Result<Condition, Fail> {
     let mut condition = Condition::new();
     for (negated, test) in parts {
-        assert!(condition.push(Part {
-            negated: *negated,
-            test: *test,
-        }));
+        assert!(rt;
+            condition.push(Part {
+                negated: *negated,
+                test: *test,
+            })
+        );
     }
     Ok(condition)
 }
@@ -69,7 +71,7 @@ pub fn fits(
         let part = Part { negated, test };
         assert_eq!(rt; part.holds(lists, route), fits != negated);
         assert_eq!(rt;
-            condition(&[(negated, test)])?.holds(lists, route),
+            condition(rt, &[(negated, test)])?.holds(lists, route),
             fits != negated
         );
     }

@@ -1,6 +1,7 @@
 //! What policies make of one route: 10.1.0.0/16 by 7, 9 and 11, with local preference 100, MED 7 and the communities 3 and 5.
 use crate::examples::{IS, NOT, condition, list, prefix, route};
 use policy::{Action, Clause, Policy, PrefixList, Test, Verdict};
+use std::process::Abort;
 use std::test::*;
 
 /// A policy, by the parts of each clause's condition and its action, whether it accepts the route, and what it leaves of it.
@@ -365,25 +366,30 @@ fn actions_of_clauses(rt: HostRuntime) -> Result<(), Fail> {
     run(&rt, &ACTIONS)
 }
 
-fn run(rt: &HostRuntime, cases: &[Case<'_>]) -> Result<(), Fail> {
+fn run(rt: &(impl Abort + AllocGlobal), cases: &[Case<'_>]) -> Result<(), Fail> {
     let near = prefix([10, 1, 0, 0], 16)?;
     let other = prefix([192, 168, 0, 0], 16)?;
     let lists = [
-        list(&[prefix([10, 0, 0, 0], 8)?, other])?,
-        list(&[other, near])?,
-        list(&[])?,
+        list(rt, &[prefix([10, 0, 0, 0], 8)?, other])?,
+        list(rt, &[other, near])?,
+        list(rt, &[])?,
     ];
     for (i, case) in cases.iter().enumerate() {
-        evaluates(rt, &lists, case).note(format_args!("case {i}"))?;
+        evaluates(rt, &lists, i, case)?;
     }
     Ok(())
 }
 
-fn evaluates(rt: &HostRuntime, lists: &[PrefixList], case: &Case<'_>) -> Result<(), Fail> {
+fn evaluates(
+    rt: &(impl Abort + AllocGlobal),
+    lists: &[PrefixList],
+    i: usize,
+    case: &Case<'_>,
+) -> Result<(), Fail> {
     let mut clauses = Vec::new(rt.alloc());
     for (parts, action) in case.clauses {
         clauses.push(Clause {
-            condition: condition(parts)?,
+            condition: condition(rt, parts)?,
             action: *action,
         })?;
     }
@@ -393,10 +399,18 @@ fn evaluates(rt: &HostRuntime, lists: &[PrefixList], case: &Case<'_>) -> Result<
     };
     let mut route = route(prefix([10, 1, 0, 0], 16)?, GIVEN.path, GIVEN.communities)?;
     let verdict = policy.evaluate(&mut route);
-    assert_eq!(matches!(verdict, Verdict::Accepted), case.accepted);
-    assert_eq!(route.path.asns(), case.left.path);
-    assert_eq!(route.metrics.local_pref, case.left.local_pref);
-    assert_eq!(route.metrics.med, case.left.med);
-    assert_eq!(route.communities.as_slice(), case.left.communities);
+    assert_eq!(rt;
+        matches!(verdict, Verdict::Accepted),
+        case.accepted,
+        "case {i}"
+    );
+    assert_eq!(rt; route.path.asns(), case.left.path, "case {i}");
+    assert_eq!(rt; route.metrics.local_pref, case.left.local_pref, "case {i}");
+    assert_eq!(rt; route.metrics.med, case.left.med, "case {i}");
+    assert_eq!(rt;
+        route.communities.as_slice(),
+        case.left.communities,
+        "case {i}"
+    );
     Ok(())
 }

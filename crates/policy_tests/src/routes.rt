@@ -14,7 +14,7 @@ fn path_of_1_to_32(rt: HostRuntime) -> Result<(), Fail> {
     assert!(rt; Path::new(&MANY).is_none());
     let one = there(Path::new(&[0]))?;
     assert_eq!(rt; one.len(), 1);
-    assert_eq!(rt; one.asns(), [0]);
+    assert_eq!(rt; one.asns(), [0].as_slice());
     let most = there(Path::new(&MANY[0..32]))?;
     assert_eq!(rt; most.len(), 32);
     assert_eq!(rt; most.asns(), &MANY[0..32]);
@@ -28,7 +28,7 @@ fn prepends_up_to_32(rt: HostRuntime) -> Result<(), Fail> {
     assert_eq!(rt; path.asns(), &MANY[8..32]);
     assert!(rt; path.prepend(5, 8));
     assert_eq!(rt; path.len(), 32);
-    assert_eq!(rt; &path.asns()[0..8], [5; 8]);
+    assert_eq!(rt; &path.asns()[0..8], [5; 8].as_slice());
     assert_eq!(rt; &path.asns()[8..], &MANY[8..32]);
     assert!(rt; path.prepend(6, 0));
     assert_eq!(rt; path.len(), 32);
@@ -49,9 +49,9 @@ fn no_33rd_network(rt: HostRuntime) -> Result<(), Fail> {
 
 #[test]
 fn communities_rise(rt: HostRuntime) -> Result<(), Fail> {
-    assert_eq!(rt; Communities::none().as_slice(), [0u32; 0]);
+    assert_eq!(rt; Communities::none().as_slice(), [0u32; 0].as_slice());
     let some = there(Communities::of(&[9, 3, 9, 4_294_967_295, 0, 3, 9, 5]))?;
-    assert_eq!(rt; some.as_slice(), [0, 3, 5, 9, 4_294_967_295]);
+    assert_eq!(rt; some.as_slice(), [0, 3, 5, 9, 4_294_967_295].as_slice());
     let most = there(Communities::of(&[8, 7, 6, 5, 4, 3, 2, 1]))?;
     assert_eq!(rt; most.as_slice(), &MANY[0..8]);
     Ok(())
@@ -78,9 +78,9 @@ fn no_ninth_community(rt: HostRuntime) -> Result<(), Fail> {
     assert_eq!(rt; communities.as_slice(), &MANY[0..8]);
     communities.remove(4);
     communities.remove(9);
-    assert_eq!(rt; communities.as_slice(), [1, 2, 3, 5, 6, 7, 8]);
+    assert_eq!(rt; communities.as_slice(), [1, 2, 3, 5, 6, 7, 8].as_slice());
     assert!(rt; communities.add(0));
-    assert_eq!(rt; communities.as_slice(), [0, 1, 2, 3, 5, 6, 7, 8]);
+    assert_eq!(rt; communities.as_slice(), [0, 1, 2, 3, 5, 6, 7, 8].as_slice());
     Ok(())
 }
 
@@ -90,7 +90,7 @@ fn removes_the_only_one(rt: HostRuntime) -> Result<(), Fail> {
     communities.remove(0);
     assert!(rt; communities.add(0));
     communities.remove(0);
-    assert_eq!(rt; communities.as_slice(), [0u32; 0]);
+    assert_eq!(rt; communities.as_slice(), [0u32; 0].as_slice());
     Ok(())
 }
 
