@@ -33,7 +33,7 @@ fn nothing_to_offer(rt: HostRuntime) {
 fn offers(rt: HostRuntime) -> Result<(), Fail> {
     let offer = there(offered(&[7, 9])?)?;
     assert_eq!(rt; offer.peer, 1);
-    assert_eq!(rt; offer.route.path.asns(), [OWN, 7, 9]);
+    assert_eq!(rt; offer.route.path.asns(), [OWN, 7, 9].as_slice());
     assert_eq!(rt; offer.route.metrics.local_pref, 200);
     assert_eq!(rt; offer.route.metrics.med, 0);
     Ok(())
@@ -43,7 +43,7 @@ fn offers(rt: HostRuntime) -> Result<(), Fail> {
 fn path_of_31_and_of_32(rt: HostRuntime) -> Result<(), Fail> {
     let offer = there(offered(&[7; 31])?)?;
     assert_eq!(rt; offer.route.path.len(), 32);
-    assert_eq!(rt; &offer.route.path.asns()[0..1], [OWN]);
+    assert_eq!(rt; &offer.route.path.asns()[0..1], [OWN].as_slice());
     assert!(rt; offered(&[7; 32])?.is_none());
     assert!(rt; exported(&[7; 31], 0, &[always(Action::Accept)])?.is_some());
     assert!(rt; exported(&[7; 32], 0, &[always(Action::Accept)])?.is_none());
@@ -85,19 +85,19 @@ fn set_by_the_export_policy(rt: HostRuntime) -> Result<(), Fail> {
         always(Action::Accept),
     ];
     let route = there(exported(&[7, 9], 0, &clauses)?)?;
-    assert_eq!(rt; route.path.asns(), [8, 8, OWN, 7, 9]);
+    assert_eq!(rt; route.path.asns(), [8, 8, OWN, 7, 9].as_slice());
     assert_eq!(rt; route.metrics.local_pref, 0);
     assert_eq!(rt; route.metrics.med, 4);
-    assert_eq!(rt; route.communities.as_slice(), [3]);
+    assert_eq!(rt; route.communities.as_slice(), [3].as_slice());
     Ok(())
 }
 
 #[test]
 fn not_set_by_the_export_policy(rt: HostRuntime) -> Result<(), Fail> {
     let route = there(exported(&[7, 9], 0, &[always(Action::Accept)])?)?;
-    assert_eq!(rt; route.path.asns(), [OWN, 7, 9]);
+    assert_eq!(rt; route.path.asns(), [OWN, 7, 9].as_slice());
     assert_eq!(rt; route.metrics.local_pref, 0);
     assert_eq!(rt; route.metrics.med, 0);
-    assert_eq!(rt; route.communities.as_slice(), [0u32; 0]);
+    assert_eq!(rt; route.communities.as_slice(), [0u32; 0].as_slice());
     Ok(())
 }

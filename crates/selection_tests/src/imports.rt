@@ -17,7 +17,7 @@ fn imported(path: &[u32], clauses: &[Clause]) -> Result<Option<Route>, Fail> {
 /// The local preference of what a policy imports that does this first, and then accepts.
 fn preference(rt: &impl Abort, first: Action) -> Result<u32, Fail> {
     let route = there(imported(&[7, 11], &[always(first), always(Action::Accept)])?)?;
-    assert_eq!(rt; route.path.asns(), [7, 11]);
+    assert_eq!(rt; route.path.asns(), [7, 11].as_slice());
     assert_eq!(rt; route.metrics.med, 9);
     Ok(route.metrics.local_pref)
 }
