@@ -67,9 +67,7 @@ impl<'a> Printer<'a> {
                 "{case}: peer {peer} is told that there is none of {a}.{b}.{c}.{d}/{length}"
             );
         };
-        print!(rt;
-            "{case}: peer {peer} is told {a}.{b}.{c}.{d}/{length} by"
-        )?;
+        print!(rt; "{case}: peer {peer} is told {a}.{b}.{c}.{d}/{length} by")?;
         for asn in route.path.asns() {
             print!(rt; " {asn}")?;
         }
