@@ -1,5 +1,5 @@
 -- The bytes of messages as peers send them, right or not. Assumes nothing.
-use Rattle.std.specs.Prelude.{ℕ, ◌+◌, ◌/◌, ◌%◌, min, Bool, cond, List, [], ◌∷◌, ◌++◌, length, take, replicate, ◌==◌, bit_or, nat_le, nat_lt}
+use Rattle.std.specs.Prelude.{ℕ, ◌+◌, ◌/◌, ◌%◌, min, cond, List, [], ◌∷◌, ◌++◌, length, take, replicate, ◌==◌, bit_or, nat_le, nat_lt}
 use Rattle.script_words.specs.declared.reading.Prefix.{Prefix}
 
 -- a number as 2 bytes, the high byte first
