@@ -59,9 +59,7 @@ pub fn show_route(rt: &HostRuntime, route: &Route) -> io::Result<()> {
     let med = route.metrics.med;
     print!(rt; "path")?;
     show_numbers(rt, route.path.asns())?;
-    print!(rt;
-        ", local preference {local_pref}, MED {med}, communities"
-    )?;
+    print!(rt; ", local preference {local_pref}, MED {med}, communities")?;
     show_numbers(rt, route.communities.as_slice())?;
     println!(rt; "")
 }
