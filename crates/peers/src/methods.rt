@@ -1,5 +1,5 @@
 //! Making, asking and changing sets of peers.
-ghost use Rattle.std.specs.Prelude.{◌≡◌, ℕ, ◌≤◌, true, false, not, ◌&&◌, ltb, if◌then◌else◌, ◌==◌, nat_eq, nat_lt};
+ghost use Rattle.std.specs.Prelude.{◌≡◌, ℕ, ◌≤◌, true, false, not, ◌&&◌, if◌then◌else◌, ◌==◌, nat_eq, nat_lt};
 ghost use Rattle.peers.specs.Members.{is_member};
 ghost use Rattle.peers.specs.Steps.{FlagSteps};
 
@@ -54,7 +54,7 @@ impl PeerSet {
 
     /// Takes a peer in, or out. A number that no peer has changes nothing.
     pub fn set(&mut self, peer: u8, member: bool)
-        ensures { (i : ℕ) → is_member self.new i ≡ (if nat_eq i peer then (if ltb peer 64 then member else false) else is_member self.old i) }
+        ensures { (i : ℕ) → is_member self.new i ≡ (if nat_eq i peer then (if nat_lt peer 64 then member else false) else is_member self.old i) }
     {
         let _ = flag_law();
         let peer = peer as usize;

@@ -21,14 +21,14 @@ unfoldable pub everybody : ℕ → Bool
 everybody i = nat_lt i most_peers
 
 -- the sessions of a set are down, their announcements are gone, and the other peers were told what is new
-pub record Silenced {S : Type 0} (R : S → Update → S → Type 0) (rules : Rules) (n : ℕ) (set : ℕ → Bool) (was is : Received) (up-was up_is : ℕ → Bool) (from to : S) : Type 0 where
-  pub up : (i : ℕ) → up_is i ≡ (up-was i && not (set i))
+pub record Silenced {S : Type 0} (R : S → Update → S → Type 0) (rules : Rules) (n : ℕ) (set : ℕ → Bool) (was is : Received) (up_was up_is : ℕ → Bool) (from to : S) : Type 0 where
+  pub up : (i : ℕ) → up_is i ≡ (up_was i && not (set i))
   pub now : (i p : ℕ) → is i p ≡ cond (nat_lt i n && set i) None (was i p)
   pub sends : Chain R from (updates count up_is (intended_by rules n nobody was) (intended_by rules n set was) n) to
 
 -- a peer's session is up, and it was told all that it should hold
-pub record Welcomed {S : Type 0} (R : S → Update → S → Type 0) (rules : Rules) (n i : ℕ) (was is : Received) (up-was up_is : ℕ → Bool) (from to : S) : Type 0 where
-  pub up : (j : ℕ) → up_is j ≡ cond (j == i) (nat_lt i most_peers) (up-was j)
+pub record Welcomed {S : Type 0} (R : S → Update → S → Type 0) (rules : Rules) (n i : ℕ) (was is : Received) (up_was up_is : ℕ → Bool) (from to : S) : Type 0 where
+  pub up : (j : ℕ) → up_is j ≡ cond (j == i) (nat_lt i most_peers) (up_was j)
   pub now : Same is was
   pub sends : Chain R from (row i (intended_by rules n everybody was i) (intended_by rules n nobody was i) count) to
 

@@ -1,7 +1,7 @@
 //! Reading an UPDATE.
 ghost use Rattle.std.specs.Prelude.{◌≡◌};
 ghost use Rattle.attributes.specs.Meant.{peer_of, reading_of};
-ghost use Rattle.update.specs.Finding.{announced as announcedBy, both_checked, content_from};
+ghost use Rattle.update.specs.Finding.{announced as announced_by, both_checked, content_from};
 ghost use Rattle.update.specs.Meant.{content_meant, found_of};
 ghost use Rattle.update.specs.Steps.{NumberSteps, UpdateSteps};
 ghost use Rattle.update.specs.Update.{read_update};
@@ -65,7 +65,7 @@ fn content(found: Found, invalid: bool, announces: bool) -> Content
 
 /// The attributes of what is announced, if none is missing.
 fn announced(found: Found) -> Content
-    ensures { content_meant result ≡ announcedBy (found_of found) (found_of found).path }
+    ensures { content_meant result ≡ announced_by (found_of found) (found_of found).path }
 {
     let Some(path) = found.path else {
         return Content::Faulty(Fault::Missing);

@@ -4,7 +4,7 @@ ghost use Rattle.prefix.specs.Prefix.{count};
 ghost use Rattle.update.specs.Meant.{content_meant};
 ghost use Rattle.prefix.specs.Meant.{meant};
 ghost use Rattle.prefix.specs.Prefix.{number};
-ghost use Rattle.update_events.specs.Words.{lacks_room, needed as neededBy, needs};
+ghost use Rattle.update_events.specs.Words.{lacks_room, needed as needed_by, needs};
 
 use crate::laws::{need_law, needs_law};
 use crate::naming::{announces, next_named};
@@ -25,7 +25,7 @@ pub fn lacks_room<R: Rib>(rib: &R, peer: u8, content: &Content, message: &[u8]) 
 
 /// How many places what the peer says needs.
 fn needed<R: Rib>(rib: &R, peer: u8, content: &Content, message: &[u8]) -> usize
-    ensures { result ≡ neededBy peer (content_meant content.now) message.now (R.Rib.received rib.now) }
+    ensures { result ≡ needed_by peer (content_meant content.now) message.now (R.Rib.received rib.now) }
 {
     let mut places = 0;
     let mut from = 0;
