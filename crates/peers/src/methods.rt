@@ -1,7 +1,6 @@
 //! Making, asking and changing sets of peers.
 ghost use Rattle.std.specs.Prelude.{◌≡◌, ℕ, ◌≤◌, true, false, not, ◌&&◌, if◌then◌else◌, ◌==◌, nat_eq, nat_lt};
 ghost use Rattle.peers.specs.Members.{is_member};
-ghost use Rattle.peers.specs.Steps.{FlagSteps};
 
 use crate::PeerSet;
 
@@ -25,9 +24,9 @@ impl PeerSet {
     pub fn contains(&self, peer: u8) -> bool
         ensures { result ≡ is_member self.now peer }
     {
-        let _ = flag_law();
-        let peer = peer as usize;
-        peer < 64 && self.members[peer]
+        self.members
+            .get(usize::from(peer))
+            .is_some_and(|member| *member)
     }
 
     pub fn only(peer: u8) -> PeerSet
@@ -48,34 +47,26 @@ impl PeerSet {
                 rest.set(peer, false);
             }
         }
-        let _ = other.outside_law();
         rest
     }
 
     /// Takes a peer in, or out. A number that no peer has changes nothing.
+    #[tactic(auto, using(crate::proofs::Flags::written))]
     pub fn set(&mut self, peer: u8, member: bool)
         ensures { (i : ℕ) → is_member self.new i ≡ (if nat_eq i peer then (if nat_lt peer 64 then member else false) else is_member self.old i) }
     {
-        let _ = flag_law();
-        let peer = peer as usize;
-        if peer < 64 {
-            self.members[peer] = member;
+        let place = usize::from(peer);
+        if place < self.members.len() {
+            self.members[place] = member;
         }
     }
 }
 
 impl PeerSet {
     /// No number from 64 on is a member.
-    pub fn outside_law(&self) -> bool
+    pub fn outside_law(&self)
         ensures { (i : ℕ) → 64 ≤ i → is_member self.now i ≡ false }
     {
-        let _ = flag_law();
-        self.members[0] || true
+        let _ = &self.members;
     }
-}
-
-fn flag_law() -> bool
-    ensures { FlagSteps }
-{
-    true
 }

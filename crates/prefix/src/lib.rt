@@ -4,6 +4,7 @@
 ghost use Rattle.std.specs.Prelude.{◌≡◌, true};
 ghost use Rattle.prefix.specs.Prefix.{is_prefix};
 
+mod equality;
 mod methods;
 mod numbers;
 
@@ -11,7 +12,7 @@ pub use methods::prefix_laws;
 pub use numbers::{COUNT, number_laws};
 
 /// The addresses whose first `length` bits are those of `address`; the bits behind are 0.
-#[derive(Clone, Copy)]
+#[derive(Clone, Copy, Eq)]
 pub struct Prefix {
     address: u32,
     length: u8,

@@ -2,20 +2,18 @@
 ghost use Rattle.std.specs.Prelude.{◌≡◌, true, false, MatchOption};
 ghost use Rattle.prefix.specs.Laws.{Contained, Equal, Reflexive, Transitive, Whole};
 ghost use Rattle.prefix.specs.Meant.{meant};
-ghost use Rattle.prefix.specs.Prefix.{is_prefix, same, within};
+ghost use Rattle.prefix.specs.Prefix.{is_prefix, within};
 
 use crate::Prefix;
 
 /// Which prefixes are equal, and what it says that one is within another.
-pub fn prefix_laws() -> bool
+pub fn prefix_laws()
     ensures equal { Equal }
     ensures contained { Contained }
     ensures reflexive { Reflexive }
     ensures transitive { Transitive }
     ensures whole { Whole }
-{
-    true
-}
+{}
 
 impl Prefix {
     /// 0.0.0.0/0, which holds every prefix.
@@ -50,13 +48,6 @@ impl Prefix {
         ensures { result ≡ (meant self.now).length }
     {
         self.length
-    }
-
-    /// Whether both are one prefix.
-    pub fn is(&self, other: &Prefix) -> bool
-        ensures { result ≡ same (meant self.now) (meant other.now) }
-    {
-        self.address == other.address && self.length == other.length
     }
 
     /// Whether each address of `self` is one of `other`.

@@ -3,7 +3,7 @@ ghost use Rattle.std.specs.Prelude.{◌≡◌, ◌+◌, ◌-◌, ◌^◌, ◌<�
 ghost use Rattle.prefix.specs.Laws.{Bounded, Injective, Inverse, Onto, Rising};
 ghost use Rattle.prefix.specs.Meant.{meant};
 ghost use Rattle.prefix.specs.Prefix.{count, number, prefix_of};
-ghost use Rattle.prefix.specs.Steps.{Descends, Ends, Numbered};
+ghost use Rattle.prefix.specs.Steps.{Descends, Ends};
 
 use crate::Prefix;
 
@@ -11,38 +11,28 @@ use crate::Prefix;
 pub const COUNT: u32 = 33_554_431;
 
 /// Numbers have the order of prefixes, and each below `COUNT` is that of one.
-pub fn number_laws() -> bool
+pub fn number_laws()
     ensures rising { Rising }
     ensures injective { Injective }
     ensures bounded { Bounded }
     ensures onto { Onto }
     ensures inverse { Inverse }
-{
-    true
-}
+{}
 
-/// A prefix's number can be worked out.
-fn number_fits() -> bool
-    ensures { Numbered }
-{
-    true
-}
-
-/// Going down from a prefix to the one of a number, bit by bit.
-fn descent() -> bool
+/// Going down from a prefix to the one of a number, bit by bit. It is cited by a call, since an answer that cites the lemma
+/// hides from a planted edit of the loop where it is refused.
+fn descent()
     ensures descends { Descends }
     ensures ends { Ends }
-{
-    true
-}
+{}
 
 impl Prefix {
     /// The place among all prefixes, from 0.
+    #[tactic(auto, using(crate::proofs::Order::numbered))]
     pub fn number(&self) -> u32
         ensures value { result ≡ number (meant self.now) }
         ensures bound { result < count }
     {
-        let _ = number_fits();
         let bits = self.address >> 8;
         2 * bits + self.length as u32 - bits.count_ones()
     }
@@ -66,7 +56,7 @@ impl Prefix {
         if n >= COUNT {
             return None;
         }
-        let _ = descent();
+        descent();
         let mut prefix = Prefix::whole();
         let mut rest = n;
         for length in 0..24u8 {

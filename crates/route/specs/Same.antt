@@ -1,13 +1,11 @@
 -- When two routes are the same. Assumes nothing.
-use Rattle.std.specs.Prelude.{ℕ, Bool, true, false, ◌&&◌, List, [], ◌∷◌, Some, None, Option, ◌==◌}
+use Rattle.std.specs.Prelude.{ℕ, Bool, true, false, ◌&&◌, List, Some, None, Option, ◌==◌}
+use Rattle.std.specs.Cmp.Lexicographic.{pointwise}
 use Rattle.prefix.specs.Prefix.{same}
 use Rattle.route.specs.Route.{Route}
 
-unfoldable pub same_row : List ℕ → List ℕ → Bool
-same_row [] [] = true
-same_row [] (y ∷ ys) = false
-same_row (x ∷ xs) [] = false
-same_row (x ∷ xs) (y ∷ ys) = x == y && same_row xs ys
+abbrev pub same_row : List ℕ → List ℕ → Bool
+same_row xs ys = pointwise ◌==◌ xs ys
 
 abbrev pub same_route : Route → Route → Bool
 same_route a e = same a.prefix e.prefix && (same_row a.path e.path && (a.local_pref == e.local_pref && (a.med == e.med && same_row a.communities e.communities)))

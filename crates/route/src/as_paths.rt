@@ -1,10 +1,11 @@
 //! AS paths.
-ghost use Rattle.std.specs.Prelude.{◌≡◌, ◌-◌, ◌<◌, ◌≤◌, false, ◌&&◌, ◌++◌, length, take, drop, if◌then◌else◌, MatchOption, nat_le, nat_lt};
+ghost use Rattle.std.specs.Prelude.{◌≡◌, ◌-◌, ◌<◌, ◌≤◌, false, ◌&&◌, ◌++◌, length, take, drop, replicate, if◌then◌else◌, MatchOption, MatchResult, true, nat_le, nat_lt};
 ghost use Rattle.route.specs.Meant.{asns_of};
 ghost use Rattle.route.specs.Numbers.{prepended};
 ghost use Rattle.route.specs.Steps.{EndSteps};
 
 use crate::Path;
+use rows::Full;
 
 impl Path {
     /// The path of these networks, if they are 1 to 32.
@@ -26,7 +27,7 @@ impl Path {
     pub fn asns(&self) -> &[u32]
         ensures { result.now ≡ asns_of self.now }
     {
-        let _ = end_law();
+        end_law();
         let start = self.start;
         &self.asns[start..]
     }
@@ -36,24 +37,23 @@ impl Path {
         ensures value { result ≡ length (asns_of self.now) }
         ensures bound { (0 < result) × (result ≤ 32) }
     {
-        let _ = end_law();
+        end_law();
         32 - self.start
     }
 
-    /// Puts `asn` in front so many times. A path that would have more than 32 networks is left as it is, and the answer is false.
-    pub fn prepend(&mut self, asn: u32, times: u8) -> bool
-        ensures fits { result ≡ nat_le (length (prepended asn times (asns_of self.old))) 32 }
-        ensures path { asns_of self.new ≡ (if result then prepended asn times (asns_of self.old) else asns_of self.old) }
+    /// Puts `asn` in front so many times. A path that would have more than 32 networks is left as it is.
+    pub fn prepend(&mut self, asn: u32, times: u8) -> Result<(), Full>
+        ensures { MatchResult result (λ _. (nat_le (length (prepended asn times (asns_of self.old))) 32 ≡ true) × (asns_of self.new ≡ prepended asn times (asns_of self.old))) (λ _. (nat_le (length (prepended asn times (asns_of self.old))) 32 ≡ false) × (self.new ≡ self.old)) }
     {
-        let _ = end_law();
-        let times = times as usize;
+        end_law();
+        let times = usize::from(times);
         let start = self.start;
         if times > start {
-            return false;
+            return Err(Full);
         }
         write_before(&mut self.asns, start, asn, times);
         self.start = start - times;
-        true
+        Ok(())
     }
 }
 
@@ -70,16 +70,12 @@ fn write_at_end(all: &mut [u32], row: &[u32])
 /// Writes `asn` so many times right before `end`.
 fn write_before(all: &mut [u32], end: usize, asn: u32, times: usize)
     requires { (times ≤ end) × (end ≤ length all.old) }
-    ensures { drop (end - times) all.new ≡ prepended asn times (drop end all.old) }
+    ensures whole { all.new ≡ take (end - times) all.old ++ (replicate times asn ++ drop end all.old) }
+    ensures before { drop (end - times) all.new ≡ prepended asn times (drop end all.old) }
 {
-    let _ = end_law();
-    for k in 0..times {
-        all[end - 1 - k] = asn;
-    }
+    all[end - times..end].fill(asn);
 }
 
-fn end_law() -> bool
+fn end_law()
     ensures { EndSteps }
-{
-    true
-}
+{}

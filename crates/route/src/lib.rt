@@ -13,7 +13,6 @@ mod sameness;
 pub use among::is_among;
 pub use laws::{formed_law, row_laws};
 use prefix::Prefix;
-pub use sameness::same_option;
 
 /// An AS path of 1 to 32 networks, the nearest first. It stands at the end of the array, so that the room in front takes what is prepended.
 #[derive(Clone, Copy)]
@@ -33,13 +32,13 @@ pub struct Communities {
 }
 
 /// The numbers by which routes are compared: the larger local preference, the smaller MED is the better.
-#[derive(Clone, Copy)]
+#[derive(Clone, Copy, Debug, PartialEq, Eq)]
 pub struct Metrics {
     pub local_pref: u32,
     pub med: u32,
 }
 
-#[derive(Clone, Copy)]
+#[derive(Clone, Copy, PartialEq, Eq)]
 pub struct Route {
     pub prefix: Prefix,
     pub path: Path,

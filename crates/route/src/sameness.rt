@@ -1,53 +1,37 @@
-//! When two routes are the same.
-ghost use Rattle.std.specs.Prelude.{◌≡◌};
-ghost use Rattle.route.specs.Meant.{route_of};
-ghost use Rattle.route.specs.Same.{same_option, same_route, same_row};
-ghost use Rattle.route.specs.Steps.{SameSteps};
-ghost use Rattle.std.specs.Option.{option_map};
+//! When two routes are the same. Paths and communities are compared by hand: what their memory holds besides means nothing.
+ghost use Rattle.std.specs.Prelude.{◌==◌};
+ghost use Rattle.std.specs.Cmp.Lexicographic.{pointwise};
+ghost use Rattle.std.proofs.Common.{rules};
+ghost use Rattle.std.specs.Cmp.Rules.{comparing};
+ghost use Rattle.std.specs.Ordering.{on};
+ghost use Rattle.route.specs.Meant.{asns_of, communities_of};
 
-use crate::Route;
+use crate::{Communities, Path};
 
-impl Route {
-    /// Whether both say the same of the same prefix.
-    pub fn is(&self, other: &Route) -> bool
-        ensures { result ≡ same_route (route_of self.now) (route_of other.now) }
-    {
-        self.prefix.is(&other.prefix)
-            && same_row(self.path.asns(), other.path.asns())
-            && self.metrics.local_pref == other.metrics.local_pref
-            && self.metrics.med == other.metrics.med
-            && same_row(self.communities.as_slice(), other.communities.as_slice())
+impl PartialEq for Path {
+    ghost eq = { on asns_of (pointwise ◌==◌) };
+
+    ghost laws = { Prim.search (comparing, rules) };
+
+    fn eq(&self, other: &Path) -> bool {
+        self.asns() == other.asns()
     }
 }
 
-/// Whether there is no route, or one and the same.
-pub fn same_option(one: &Option<Route>, other: &Option<Route>) -> bool
-    ensures { result ≡ same_option (option_map route_of one.now) (option_map route_of other.now) }
-{
-    match (one, other) {
-        (None, None) => true,
-        (Some(one), Some(other)) => one.is(other),
-        _ => false,
+impl Eq for Path {
+    ghost laws = { Prim.search (comparing, rules) };
+}
+
+impl PartialEq for Communities {
+    ghost eq = { on communities_of (pointwise ◌==◌) };
+
+    ghost laws = { Prim.search (comparing, rules) };
+
+    fn eq(&self, other: &Communities) -> bool {
+        self.as_slice() == other.as_slice()
     }
 }
 
-fn same_row(one: &[u32], other: &[u32]) -> bool
-    ensures { result ≡ same_row one.now other.now }
-{
-    let _ = same_law(one, other);
-    if one.len() != other.len() {
-        return false;
-    }
-    for i in 0..one.len() {
-        if one[i] != other[i] {
-            return false;
-        }
-    }
-    true
-}
-
-fn same_law(one: &[u32], other: &[u32]) -> bool
-    ensures { SameSteps one.now other.now }
-{
-    true
+impl Eq for Communities {
+    ghost laws = { Prim.search (comparing, rules) };
 }

@@ -1,8 +1,34 @@
-//! Facts about a row that a loop over it cites by a call: the calls do nothing.
+//! Rows of at most so many items, and facts about any row.
 #![tactic(auto)]
+
+mod methods;
 
 ghost use Rattle.std.specs.Prelude.{◌≡◌, ◌+◌, ◌<◌, ◌≤◌, [], ◌∷◌, ◌++◌, length, take, drop, slice_index_or, slice_set};
 ghost use Rattle.rows.specs.Rest.{FillSteps, RestSteps};
+
+use std::alloc::AllocError;
+
+/// Up to `N` items, in memory of their own: the first `count`.
+#[derive(Copy)]
+pub struct Row<T: Copy, const N: usize> {
+    items: [T; N],
+    count: usize,
+    ghost few: { count ≤ N },
+}
+
+impl<T: Copy, const N: usize> Clone for Row<T, N> {
+    ghost is_clone = { λ x y. y ≡ x };
+
+    ghost is_infallible = { λ _. Unit {0} };
+
+    fn clone(&self) -> Result<Row<T, N>, AllocError> {
+        Ok(*self)
+    }
+}
+
+/// There is no room for one item more.
+#[derive(Clone, Copy, Debug, PartialEq, Eq)]
+pub struct Full;
 
 /// From `i` on the row is the item that stands there, and then the row behind it.
 pub fn unrolls<T>(row: &[T], i: usize, item: &T) -> bool
