@@ -5,24 +5,21 @@ use Rattle.prefix.specs.Meant.{meant}
 use Rattle.prefix.specs.Prefix.{Prefix, is_prefix, same, within}
 use Rattle.prefix.specs.declared.Prefix.{Prefix as StoredPrefix}
 use Rattle.std.proofs.lemmas.Nat.{pow_pos, shr_split}
-use Rattle.std.proofs.lemmas.List.{drop-take, get_or_past, get_or-set_other, get_or-set_same, length-append, length-set, length-take, take_all, take-append-drop, take-append-le}
+use Rattle.std.proofs.lemmas.List.{get_or_past, get_or-set_other, get_or-set_same, length-append, length-set, take_all, take-append-drop, take-append-le}
 use Rattle.std.proofs.lemmas.Bool.{cases_Bool, cases_eq, cases_lt, or_from, or_parts}
 use Rattle.std.proofs.lemmas.Bool.Decides.{nat_tests}
 use Rattle.policy.specs.Policy.{is_listed, is_covered}
 use Rattle.policy.specs.Starts.{Lowered, Starts, bucket_of, first_bucket, last_bucket}
-use Rattle.policy.specs.Steps.{LowerSteps, StartSteps}
 
 or_assoc : (a b c : Bool) → (a || (b || c)) ≡ ((a || b) || c)
 or_assoc true b c = refl
 or_assoc false b c = refl
 
 covered_append : (p : Prefix) (xs ys : List StoredPrefix) → is_covered p (map meant (xs ++ ys)) ≡ (is_covered p (map meant xs) || is_covered p (map meant ys))
-unfolding is_covered
 covered_append p [] ys = refl
 covered_append p (x ∷ xs) ys = ap (λ b. within p (meant x) || b) (covered_append p xs ys) ∙ or_assoc (within p (meant x)) _ _
 
 listed_append : (p : Prefix) (xs ys : List StoredPrefix) → is_listed p (map meant (xs ++ ys)) ≡ (is_listed p (map meant xs) || is_listed p (map meant ys))
-unfolding is_listed
 listed_append p [] ys = refl
 listed_append p (x ∷ xs) ys = ap (λ b. same p (meant x) || b) (listed_append p xs ys) ∙ or_assoc (same p (meant x)) _ _
 
@@ -31,7 +28,6 @@ unlike : (p q : Prefix) → within p q ≡ false → same p q ≡ false
 unlike p q h = grind (arith, nat_tests)
 
 unlisted : (p : Prefix) (xs : List StoredPrefix) → is_covered p (map meant xs) ≡ false → is_listed p (map meant xs) ≡ false
-unfolding is_covered is_listed
 unlisted p [] e = refl
 unlisted p (x ∷ xs) e = let parts = or_parts (within p (meant x)) _ e in or_from _ _ (unlike p (meant x) parts.0) (unlisted p xs parts.1)
 
@@ -69,22 +65,13 @@ capped p s n xs h e =
     (λ most. let m : min s n ≡ n = omega arith in ap (λ k. is_covered p (map meant (take k xs))) m ∙ ap (λ l. is_covered p (map meant l)) (take_all n xs h ∙ sym (take_all s xs (omega arith))) ∙ e)
     (cases_lt s n)
 
-few : {A : Type 0} (n : ℕ) (xs : List A) → length (take n xs) ≤ n
-few n xs = omega (arith, length-take n xs)
-
-slice : (row : List StoredPrefix) (count start : ℕ) → start ≤ count → take (count - start) (drop start row) ≡ drop start (take count row)
-slice row count start h = let whole : start + (count - start) ≡ count = omega arith in sym (drop-take start (count - start) row) ∙ ap (λ n. drop start (take n row)) whole
-
-pub from_start : (starts : List ℕ) (row : List StoredPrefix) (count start : ℕ) (p : Prefix) → Starts starts (take count row) → start ≡ min (get_or starts (bucket_of p.address) 0) count → (is_covered p (map meant (take (count - start) (drop start row))) ≡ is_covered p (map meant (take count row))) × (is_listed p (map meant (take (count - start) (drop start row))) ≡ is_listed p (map meant (take count row)))
-from_start starts row count start p h e =
-    let none = capped p (get_or starts (bucket_of p.address) 0) count (take count row) (few count row) (h p) in
-    let found = behind p start (take count row) (ap (λ s. is_covered p (map meant (take s (take count row)))) e ∙ none) in
-    let at = slice row count start (omega arith) in
-    (ap (λ l. is_covered p (map meant l)) at ∙ found.0, ap (λ l. is_listed p (map meant l)) at ∙ found.1)
+pub from_start : (starts : List ℕ) (row : List StoredPrefix) (start : ℕ) (p : Prefix) → Starts starts row → start ≡ min (get_or starts (bucket_of p.address) 0) (length row) → (is_covered p (map meant (drop start row)) ≡ is_covered p (map meant row)) × (is_listed p (map meant (drop start row)) ≡ is_listed p (map meant row))
+from_start starts row start p h e =
+    let none = capped p (get_or starts (bucket_of p.address) 0) (length row) row (omega arith) (h p) in
+    behind p start row (ap (λ s. is_covered p (map meant (take s row))) e ∙ none)
 
 -- one prefix more, behind the others, of which p is not within
 not_within : (p : Prefix) (q : StoredPrefix) → within p (meant q) ≡ false → is_covered p (map meant (q ∷ [])) ≡ false
-unfolding is_covered
 not_within p q e = or_from _ _ e refl
 
 grown : (p : Prefix) (s : ℕ) (xs : List StoredPrefix) (q : StoredPrefix) → is_covered p (map meant (take s xs)) ≡ false → within p (meant q) ≡ false → is_covered p (map meant (take s (xs ++ (q ∷ [])))) ≡ false
@@ -94,7 +81,7 @@ grown p s xs q e w =
     (λ most. let size : length (xs ++ (q ∷ [])) ≤ s = omega (arith, length-append xs (q ∷ [])) in ap (λ l. is_covered p (map meant l)) (take_all s (xs ++ (q ∷ [])) size) ∙ covered_append p xs (q ∷ []) ∙ or_from _ _ (ap (λ l. is_covered p (map meant l)) (sym (take_all s xs (omega arith))) ∙ e) (not_within p q w))
     (cases_lt s (length xs + 1))
 
-push : (old new : List ℕ) (members : List StoredPrefix) (q : StoredPrefix) → Starts old members → Lowered old new (first_bucket (meant q)) (last_bucket (meant q) + 1) (length members) → Starts new (members ++ (q ∷ []))
+pub push : (old new : List ℕ) (members : List StoredPrefix) (q : StoredPrefix) → Starts old members → Lowered old new (first_bucket (meant q)) (last_bucket (meant q) + 1) (length members) → Starts new (members ++ (q ∷ []))
 push old new members q h l p =
     let b = bucket_of p.address in
     let same : get_or new b 0 ≡ get_or old b 0 → within p (meant q) ≡ false → is_covered p (map meant (take (get_or new b 0) (members ++ (q ∷ [])))) ≡ false = λ e w. ap (λ s. is_covered p (map meant (take s (members ++ (q ∷ []))))) e ∙ grown p (get_or old b 0) members q (h p) w in
@@ -108,18 +95,9 @@ push old new members q h l p =
     (cases_lt b (first_bucket (meant q)))
 
 pub empty : (s : ℕ) (p : Prefix) → is_covered p (map meant (take {A = StoredPrefix} s [])) ≡ false
-unfolding is_covered
 empty s p = ap (λ (l : List StoredPrefix). is_covered p (map meant l)) (take_all s [] (omega arith))
 
-pub start_steps : StartSteps
-start_steps = record {
-  none = λ starts p. empty _ p;
-  push = push;
-  covered = λ starts row count start p h e. (from_start starts row count start p h e).0;
-  listed = λ starts row count start p h e. (from_start starts row count start p h e).1;
-}
-
-past : (xs : List ℕ) (k n : ℕ) → length xs ≤ k → set xs k n ≡ xs
+pub past : (xs : List ℕ) (k n : ℕ) → length xs ≤ k → set xs k n ≡ xs
 past [] k n h = refl
 past (x ∷ xs) zero n h = absurd (omega arith)
 past (x ∷ xs) (suc k) n h = ap (λ l. x ∷ l) (past xs k n (omega arith))
@@ -139,9 +117,8 @@ more old new first k n from l = record {
   behind = λ j high. let ne : j ≢ k = omega arith in get_or-set_other new k j _ 0 ne ∙ l.behind j (omega arith);
 }
 
-pub lower_steps : LowerSteps
-lower_steps = record {
-  none = λ starts first n. record { size = refl; inside = λ k low high. absurd (omega arith); before = λ k h. refl; behind = λ k h. refl };
-  more = λ old new next first k n from l e. subst (λ (x : List ℕ). Lowered old x first (k + 1) n) (sym e) (more old new first k n from l);
-  past = past;
-}
+pub lowered_none : (starts : List ℕ) (first n : ℕ) → Lowered starts starts first first n
+lowered_none starts first n = record { size = refl; inside = λ k low high. absurd (omega arith); before = λ k h. refl; behind = λ k h. refl }
+
+pub lowered_more : (old new next : List ℕ) (first k n : ℕ) → first ≤ k → Lowered old new first k n → next ≡ set new k (min (get_or new k 0) n) → Lowered old next first (k + 1) n
+lowered_more old new next first k n from l e = subst (λ (x : List ℕ). Lowered old x first (k + 1) n) (sym e) (more old new first k n from l)

@@ -1,38 +1,23 @@
--- The steps of the recursions over lists, conditions and policies. Assumes nothing.
-use Rattle.std.proofs.Common.{◌≡◌, ℕ, zero, suc, ◌<◌, ◌≤◌, List, [], ◌∷◌, length, get_or, sym, refl, ap, arith}
+-- One step of going through clauses, and tests of what rows stand for. Assumes nothing.
+use Rattle.std.proofs.Common.{◌≡◌, ℕ, ◌+◌, ◌<◌, ◌≤◌, List, ◌∷◌, length, get_or, map, drop, sym, refl, ap, ◌∙◌}
+use Rattle.std.proofs.lemmas.List.{drop_all, drop_more}
+use Rattle.policy.specs.declared.Clause as stored_clause
 use Rattle.policy.specs.declared.PrefixList.{PrefixList}
-use Rattle.policy.specs.Meant.{prefixes_of, list_at}
-use Rattle.policy.specs.Policy.{is_listed, is_covered, holds, through}
-use Rattle.policy.specs.Steps.{ListSteps, LookupSteps, PartSteps, ClauseSteps}
+use Rattle.policy.specs.Meant.{clause_of}
+use Rattle.policy.specs.Policy.{GoesOn, and_then, clause_step, through}
+use Rattle.route.specs.Route.{Route}
+use Rattle.std.specs.List.{list_any}
+use Rattle.std.proofs.Common.{Bool, ◌||◌, []}
 
-pub list_steps : ListSteps
-unfolding is_listed is_covered
-list_steps = record {
-  listed_none = λ p. refl;
-  listed_more = λ p q qs. refl;
-  covered_none = λ p. refl;
-  covered_more = λ p q qs. refl;
-}
-
-there : (ls : List PrefixList) (i : ℕ) (l : PrefixList) → i < length ls → l ≡ get_or ls i l → list_at ls i ≡ prefixes_of l
-unfolding list_at
-there [] i l h e = absurd (omega arith)
-there (x ∷ ls) zero l h e = ap prefixes_of (sym e)
-there (x ∷ ls) (suc i) l h e = there ls i l (omega arith) e
-
-absent : (ls : List PrefixList) (i : ℕ) → length ls ≤ i → list_at ls i ≡ []
-unfolding list_at
-absent [] i h = refl
-absent (x ∷ ls) zero h = absurd (omega arith)
-absent (x ∷ ls) (suc i) h = absent ls i (omega arith)
-
-pub lookup_steps : LookupSteps
-lookup_steps = record { there = there; absent = absent }
-
-pub part_steps : PartSteps
-unfolding holds
-part_steps = record { none = λ r. refl; more = λ r p ps. refl }
-
-pub clause_steps : ClauseSteps
+pub through_more : (ls : List PrefixList) (cs : List stored_clause.Clause) (i : ℕ) (c : stored_clause.Clause) (r : Route) → i < length cs → c ≡ get_or cs i c → through (map (clause_of ls) (drop i cs)) r ≡ and_then (clause_step (clause_of ls c) r) (λ q. through (map (clause_of ls) (drop (i + 1) cs)) q)
 unfolding through
-clause_steps = record { none = λ r. refl; more = λ r c cs. refl }
+through_more ls cs i c r h e =
+    ap (λ l. through (map (clause_of ls) l) r) (drop_more cs i c h) ∙ ap (λ x. and_then (clause_step (clause_of ls x) r) (λ q. through (map (clause_of ls) (drop (i + 1) cs)) q)) (sym e)
+
+pub through_end : (ls : List PrefixList) (cs : List stored_clause.Clause) (i : ℕ) (r : Route) → length cs ≤ i → through (map (clause_of ls) (drop i cs)) r ≡ GoesOn r
+unfolding through
+through_end ls cs i r h = ap (λ l. through (map (clause_of ls) l) r) (drop_all i cs h)
+
+pub any_of_map : {X Y : Type 0} (p : Y → Bool) (h : X → Y) (xs : List X) → list_any p (map h xs) ≡ list_any (λ x. p (h x)) xs
+any_of_map p h [] = refl
+any_of_map p h (x ∷ xs) = ap (λ b. p (h x) || b) (any_of_map p h xs)

@@ -39,7 +39,6 @@ unfolding through
 no_clauses r = refl
 
 both : (a e : Condition) (r : Route) → holds (a ++ e) r ≡ (holds a r && holds e r)
-unfolding holds
 both [] e r = refl
 both (p ∷ a) e r = let more = both a e r in grind arith
 

@@ -2,4 +2,3 @@ pub mod Policy
 pub mod Laws
 pub mod Meant
 pub mod Starts
-pub mod Steps

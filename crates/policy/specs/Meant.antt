@@ -1,5 +1,7 @@
 -- What the code's policies stand for. Assumes nothing.
-use Rattle.std.specs.Prelude.{ℕ, zero, suc, List, [], ◌∷◌, map, take}
+use Rattle.std.specs.Prelude.{ℕ, List, [], map, Some, None, Option, slice_get, unwrap_or}
+use Rattle.std.specs.Option.{option_map}
+use Rattle.rows.specs.Rows.{held}
 use Rattle.prefix.specs.Meant.{meant}
 use Rattle.prefix.specs.Prefix.{Prefix}
 use Rattle.prefix.specs.declared.Prefix.{Prefix as StoredPrefix}
@@ -11,8 +13,6 @@ use Rattle.policy.specs.declared.Condition as stored_condition
 use Rattle.policy.specs.declared.Part as stored_part
 use Rattle.policy.specs.declared.Policy as stored_policy
 use Rattle.policy.specs.declared.PrefixList.{PrefixList}
-use Rattle.policy.specs.declared.Step as stored_step
-use Rattle.policy.specs.declared.Step.TheVariants as a_step
 use Rattle.policy.specs.declared.Test as stored_test
 use Rattle.policy.specs.declared.Test.TheVariants as a_test
 use Rattle.policy.specs.declared.Verdict as stored_verdict
@@ -20,16 +20,14 @@ use Rattle.policy.specs.declared.Verdict.TheVariants as a_verdict
 use Rattle.policy.specs.Policy.{Test, Any, PrefixIn, PrefixWithin, Passes, HasCommunity, LongerThan, Part, Condition, Action, Accept, Reject, SetLocalPref, SetMed, AddCommunity, RemoveCommunity, Prepend, Clause, Policy, Verdict, Accepted, Rejected, Step, Decided, GoesOn}
 
 abbrev pub listed_of : PrefixList → List StoredPrefix
-listed_of l = take l.count l.prefixes
+listed_of l = held l.prefixes
 
 abbrev pub prefixes_of : PrefixList → List Prefix
 prefixes_of l = map meant (listed_of l)
 
 -- the list of that number; one that isn't there is empty
-unfoldable pub list_at : List PrefixList → ℕ → List Prefix
-list_at [] i = []
-list_at (l ∷ ls) zero = prefixes_of l
-list_at (l ∷ ls) (suc i) = list_at ls i
+abbrev pub list_at : List PrefixList → ℕ → List Prefix
+list_at ls i = unwrap_or (option_map prefixes_of (slice_get ls i)) []
 
 abbrev pub test_of : List PrefixList → stored_test.Test → Test
 test_of ls a_test.Any = Any
@@ -43,7 +41,7 @@ abbrev pub part_of : List PrefixList → stored_part.Part → Part
 part_of ls p = record { negated = p.negated; test = test_of ls p.test }
 
 abbrev pub parts_of : stored_condition.Condition → List stored_part.Part
-parts_of c = take c.count c.parts
+parts_of c = held c.parts
 
 abbrev pub condition_of : List PrefixList → stored_condition.Condition → Condition
 condition_of ls c = map (part_of ls) (parts_of c)
@@ -68,6 +66,6 @@ abbrev pub verdict_of : stored_verdict.Verdict → Route → Verdict
 verdict_of a_verdict.Accepted r = Accepted r
 verdict_of a_verdict.Rejected r = Rejected r
 
-abbrev pub step_of : stored_step.Step → Route → Step
-step_of (a_step.Decided v) r = Decided (verdict_of v r)
-step_of a_step.GoesOn r = GoesOn r
+abbrev pub step_of : Option stored_verdict.Verdict → Route → Step
+step_of (Some v) r = Decided (verdict_of v r)
+step_of None r = GoesOn r

@@ -1,5 +1,6 @@
 -- Policies, and what one makes of a route. Assumes nothing.
-use Rattle.std.specs.Prelude.{ℕ, Bool, true, false, cond, not, ◌&&◌, ◌||◌, List, [], ◌∷◌, length, Some, None, Option, nat_le, nat_lt}
+use Rattle.std.specs.Prelude.{ℕ, Bool, true, cond, not, List, [], ◌∷◌, length, Some, None, Option, nat_le, nat_lt}
+use Rattle.std.specs.List.{list_all, list_any}
 use Rattle.prefix.specs.Prefix.{Prefix, same, within}
 use Rattle.route.specs.Numbers.{is_in, insert, without, prepended}
 use Rattle.route.specs.Route.{Route, with_path, with_local_pref, with_med, with_communities}
@@ -39,14 +40,12 @@ abbrev pub Policy : Type 0
 Policy = List Clause
 
 -- p is one of the list
-unfoldable pub is_listed : Prefix → List Prefix → Bool
-is_listed p [] = false
-is_listed p (q ∷ qs) = same p q || is_listed p qs
+abbrev pub is_listed : Prefix → List Prefix → Bool
+is_listed p qs = list_any (same p) qs
 
 -- p is within one of the list
-unfoldable pub is_covered : Prefix → List Prefix → Bool
-is_covered p [] = false
-is_covered p (q ∷ qs) = within p q || is_covered p qs
+abbrev pub is_covered : Prefix → List Prefix → Bool
+is_covered p qs = list_any (within p) qs
 
 -- what the test says of a route
 abbrev pub fits : Test → Route → Bool
@@ -61,9 +60,8 @@ abbrev pub part_holds : Part → Route → Bool
 part_holds p r = cond p.negated (not (fits p.test r)) (fits p.test r)
 
 -- all parts hold
-unfoldable pub holds : Condition → Route → Bool
-holds [] r = true
-holds (p ∷ ps) r = part_holds p r && holds ps r
+abbrev pub holds : Condition → Route → Bool
+holds ps r = list_all (λ p. part_holds p r) ps
 
 -- the end of an evaluation: whether the route is accepted, and the route as it is then
 pub data Verdict : Type 0 where

@@ -2,8 +2,6 @@
 ghost use Rattle.policy.specs.Laws.{PolicyLaws};
 
 /// The first clause that decides is the last that counts, and what is accepted is a route as before.
-pub fn policy_laws() -> bool
+pub fn policy_laws()
     ensures { PolicyLaws }
-{
-    true
-}
+{}

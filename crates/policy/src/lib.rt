@@ -1,10 +1,11 @@
 //! Policies: which routes are accepted, and what is changed on them.
 #![tactic(auto)]
 
-ghost use Rattle.std.specs.Prelude.{◌≤◌, take};
+ghost use Rattle.rows.specs.Rows.{held};
 ghost use Rattle.policy.specs.Starts.{Starts};
 
 use prefix::Prefix;
+use rows::Row;
 
 mod actions;
 mod conditions;
@@ -16,15 +17,13 @@ mod starts;
 /// Up to 64 prefixes, to which conditions refer by the number of the list. Addresses that begin with the same 10 bits share a bucket, and for each bucket there is the place of the first prefix that can hold one of it, so that looking for a prefix begins there.
 #[derive(Clone, Copy)]
 pub struct PrefixList {
-    prefixes: [Prefix; 64],
-    count: usize,
+    prefixes: Row<Prefix, 64>,
     starts: [u8; 1024],
-    ghost few: { count ≤ 64 },
-    ghost started: { Starts starts (take count prefixes) },
+    ghost started: { Starts starts (held prefixes) },
 }
 
 /// What a part of a condition asks of a route.
-#[derive(Clone, Copy)]
+#[derive(Clone, Copy, Debug, PartialEq, Eq)]
 pub enum Test {
     Any,
     PrefixIn { list: u8 },
@@ -34,7 +33,7 @@ pub enum Test {
     LongerThan { asns: u32 },
 }
 
-#[derive(Clone, Copy)]
+#[derive(Clone, Copy, Debug, PartialEq, Eq)]
 pub struct Part {
     pub negated: bool,
     pub test: Test,
@@ -43,13 +42,11 @@ pub struct Part {
 /// Up to 16 parts, all of which must hold.
 #[derive(Clone, Copy)]
 pub struct Condition {
-    parts: [Part; 16],
-    count: usize,
-    ghost few: { count ≤ 16 },
+    parts: Row<Part, 16>,
 }
 
 /// What a clause does where its condition holds.
-#[derive(Clone, Copy)]
+#[derive(Clone, Copy, Debug, PartialEq, Eq)]
 pub enum Action {
     Accept,
     Reject,
@@ -73,15 +70,8 @@ pub struct Policy<'a> {
     pub lists: &'a [PrefixList],
 }
 
-#[derive(Clone, Copy)]
+#[derive(Clone, Copy, Debug, PartialEq, Eq)]
 pub enum Verdict {
     Accepted,
     Rejected,
-}
-
-/// What comes of an action.
-#[derive(Clone, Copy)]
-pub enum Step {
-    Decided(Verdict),
-    GoesOn,
 }

@@ -1,82 +1,54 @@
 //! Lists of prefixes.
-ghost use Rattle.std.specs.Prelude.{◌≡◌, [], ◌∷◌, ◌++◌, map, length, if◌then◌else◌, nat_lt};
+ghost use Rattle.std.specs.Prelude.{◌≡◌, ◌<◌, [], ◌∷◌, ◌++◌, map, length, MatchResult};
 ghost use Rattle.policy.specs.Meant.{listed_of};
-ghost use Rattle.policy.specs.Policy.{is_covered, is_listed};
-ghost use Rattle.policy.specs.Steps.{ListSteps};
+ghost use Rattle.std.specs.List.{list_any};
 ghost use Rattle.prefix.specs.Meant.{meant};
+ghost use Rattle.prefix.specs.Prefix.{same, within};
 
 use crate::PrefixList;
-use crate::starts::{lower_starts, start_law};
+use crate::starts::lower_starts;
 use prefix::Prefix;
-use rows::{ends, fills, unrolls};
+use rows::{Full, Row};
 
 impl PrefixList {
     pub fn new() -> PrefixList
         ensures { listed_of result ≡ [] }
     {
-        let _ = start_law();
         PrefixList {
-            prefixes: [Prefix::whole(); 64],
-            count: 0,
+            prefixes: Row::new(Prefix::whole()),
             starts: [64; 1024],
         }
     }
 
-    /// One prefix more; false, and all is left as it is, where there are 64.
-    pub fn push(&mut self, prefix: Prefix) -> bool
-        ensures fits { result ≡ nat_lt (length (listed_of self.old)) 64 }
-        ensures after { listed_of self.new ≡ (if result then listed_of self.old ++ (prefix ∷ []) else listed_of self.old) }
+    /// One prefix more; where there are 64, all is left as it is.
+    #[tactic(auto, using(crate::proofs::Beginnings::push))]
+    pub fn push(&mut self, prefix: Prefix) -> Result<(), Full>
+        ensures { MatchResult result (λ _. (length (listed_of self.old) < 64) × (listed_of self.new ≡ listed_of self.old ++ (prefix ∷ []))) (λ _. (length (listed_of self.old) ≡ 64) × (listed_of self.new ≡ listed_of self.old)) }
     {
-        let count = self.count;
-        let _ = (fills(&self.prefixes, count, &prefix), start_law());
-        if count == 64 {
-            return false;
-        }
+        let count = self.prefixes.len();
+        self.prefixes.push(prefix)?;
         lower_starts(&mut self.starts, &prefix, count as u8);
-        self.prefixes[count] = prefix;
-        self.count = count + 1;
-        true
+        Ok(())
     }
 
     /// The prefixes of the list.
     pub fn as_slice(&self) -> &[Prefix]
         ensures { result.now ≡ listed_of self.now }
     {
-        let count = self.count;
-        &self.prefixes[0..count]
+        self.prefixes.as_slice()
     }
 }
 
 /// Whether the prefix is one of the row.
 pub fn is_listed(prefix: &Prefix, list: &[Prefix]) -> bool
-    ensures { result ≡ is_listed (meant prefix.now) (map meant list.now) }
+    ensures { result ≡ list_any (λ q. same (meant prefix.now) (meant q)) list.now }
 {
-    let _ = (list_law(), ends(list));
-    for (i, listed) in list.iter().enumerate() {
-        let _ = unrolls(list, i, listed);
-        if prefix.is(listed) {
-            return true;
-        }
-    }
-    false
+    list.iter().any(|listed| prefix == listed)
 }
 
 /// Whether the prefix is within one of the row.
 pub fn is_covered(prefix: &Prefix, list: &[Prefix]) -> bool
-    ensures { result ≡ is_covered (meant prefix.now) (map meant list.now) }
+    ensures { result ≡ list_any (λ q. within (meant prefix.now) (meant q)) list.now }
 {
-    let _ = (list_law(), ends(list));
-    for (i, listed) in list.iter().enumerate() {
-        let _ = unrolls(list, i, listed);
-        if prefix.is_within(listed) {
-            return true;
-        }
-    }
-    false
-}
-
-pub(crate) fn list_law() -> bool
-    ensures { ListSteps }
-{
-    true
+    list.iter().any(|listed| prefix.is_within(listed))
 }

@@ -23,6 +23,14 @@ impl<T: Copy, const N: usize> Row<T, N> {
         &items[..self.count]
     }
 
+    /// How many items there are.
+    pub fn len(&self) -> usize
+        ensures value { result ≡ length (held self.now) }
+        ensures bound { result ≤ N }
+    {
+        self.count
+    }
+
     /// One item more, at the end; where there are `N`, the row is left as it is.
     pub fn push(&mut self, item: T) -> Result<(), Full>
         ensures { MatchResult result (λ _. (length (held self.old) < N) × (held self.new ≡ held self.old ++ (item ∷ []))) (λ _. (length (held self.old) ≡ N) × (self.new ≡ self.old)) }
