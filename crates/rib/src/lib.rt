@@ -1,7 +1,7 @@
 //! The Adj-RIB-In, by what it holds: a table that keeps what each peer last announced of each prefix.
 #![tactic(auto)]
 
-ghost use Rattle.std.specs.Prelude.{◌≡◌, ◌<◌, ◌≤◌, true, ◌&&◌, Some, None, MatchBool, MatchOption, nat_le, nat_lt};
+ghost use Rattle.std.specs.Prelude.{◌≡◌, ◌<◌, ◌≤◌, true, ◌&&◌, Some, None, MatchOption, MatchResult, is_ok, nat_le, nat_lt};
 ghost use Rattle.prefix.specs.Meant.{meant};
 ghost use Rattle.prefix.specs.Prefix.{count, number};
 ghost use Rattle.rib.specs.Received.{Announced, Received, Same, Silent, Unannounced, capacity, cleared, is_route, most_peers, stored, updated};
@@ -10,6 +10,7 @@ ghost use Rattle.std.specs.Option.{option_map};
 
 use prefix::Prefix;
 use route::Route;
+use rows::Full;
 
 pub trait Rib {
     ghost received: { Self → Received };
@@ -30,10 +31,10 @@ pub trait Rib {
     fn len(&self) -> usize
         ensures { result ≡ stored most_peers count (received self.now) };
 
-    /// Keeps the route as what the peer last announced of its prefix; false, and nothing is changed, where there is no room or no such peer.
-    fn put(&mut self, peer: u8, route: &Route) -> bool
-        ensures fits { result ≡ (nat_lt peer most_peers && nat_le (stored most_peers count (updated peer (number (meant route.now.prefix)) (Some (route_of route.now)) (received self.old))) capacity) }
-        ensures after { MatchBool result (Same (received self.new) (updated peer (number (meant route.now.prefix)) (Some (route_of route.now)) (received self.old))) (Same (received self.new) (received self.old)) };
+    /// Keeps the route as what the peer last announced of its prefix; nothing is changed where there is no room or no such peer.
+    fn put(&mut self, peer: u8, route: &Route) -> Result<(), Full>
+        ensures fits { is_ok result ≡ (nat_lt peer most_peers && nat_le (stored most_peers count (updated peer (number (meant route.now.prefix)) (Some (route_of route.now)) (received self.old))) capacity) }
+        ensures after { MatchResult result (λ _. Same (received self.new) (updated peer (number (meant route.now.prefix)) (Some (route_of route.now)) (received self.old))) (λ _. Same (received self.new) (received self.old)) };
 
     /// Forgets what the peer announced of the prefix.
     fn remove(&mut self, peer: u8, prefix: Prefix)

@@ -1,14 +1,9 @@
 -- The steps of the recursions. Assumes nothing.
 use Rattle.std.proofs.Common.{◌≡◌, ℕ, zero, suc, ◌<◌, ◌≤◌, Bool, false, cond, None, sym, refl, ap, ◌∙◌, ⊎_elim, add-one, arith}
 use Rattle.rib.specs.Received.{Received, heard}
-use Rattle.route.specs.Numbers.{prepended}
 use Rattle.selection.specs.Intended.{Rules, imported, or_better, selected}
-use Rattle.selection.specs.Steps.{OnceSteps, SelectSteps}
+use Rattle.selection.specs.Steps.{SelectSteps}
 use Rattle.std.proofs.lemmas.Bool.{cases_lt, cond_both, cond-true}
-
-pub once_steps : OnceSteps
-unfolding prepended
-once_steps = record { once = λ n xs. refl }
 
 nothing : (rules : Rules) (received : Received) (p n : ℕ) → received n p ≡ None → selected rules received p (suc n) ≡ selected rules received p n
 unfolding selected

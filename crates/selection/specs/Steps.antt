@@ -1,12 +1,7 @@
 -- One step of each recursion. Assumes nothing.
-use Rattle.std.specs.Prelude.{◌≡◌, ℕ, ◌+◌, ◌≤◌, Bool, true, false, List, ◌∷◌, None}
+use Rattle.std.specs.Prelude.{◌≡◌, ℕ, ◌+◌, ◌≤◌, Bool, true, false, None}
 use Rattle.rib.specs.Received.{Received, Silent, heard}
-use Rattle.route.specs.Numbers.{prepended}
 use Rattle.selection.specs.Intended.{Rules, imported, or_better, selected}
-
--- a network put in front once
-pub record OnceSteps : Type 0 where
-  pub once : (n : ℕ) (xs : List ℕ) → prepended n 1 xs ≡ n ∷ xs
 
 -- going through the peers, from m to n: those that announced nothing, and those that don't count, change nothing
 pub record SelectSteps (rules : Rules) (silent : ℕ → Bool) (received : Received) (p m n : ℕ) : Type 0 where

@@ -4,7 +4,6 @@ ghost use Rattle.policy.specs.Meant.{policy_of};
 ghost use Rattle.route.specs.Meant.{route_of};
 ghost use Rattle.selection.specs.Intended.{exported_to, offered};
 ghost use Rattle.selection.specs.Meant.{candidate_of};
-ghost use Rattle.selection.specs.Steps.{OnceSteps};
 ghost use Rattle.std.specs.Option.{option_map};
 
 use crate::Candidate;
@@ -12,14 +11,12 @@ use policy::{Policy, Verdict};
 use route::Route;
 
 /// The selected route as it is offered to the export policies: with the own network in front, if there is room for it, and MED 0.
+#[tactic(auto, unfolding(route::specs::Numbers::prepended))]
 pub fn offer(own_asn: u32, best: Option<Candidate>) -> Option<Candidate>
     ensures { option_map candidate_of result ≡ offered own_asn (option_map candidate_of best) }
 {
-    let _ = once_law();
     let Candidate { peer, mut route } = best?;
-    if !route.path.prepend(own_asn, 1) {
-        return None;
-    }
+    route.path.prepend(own_asn, 1).ok()?;
     route.metrics.med = 0;
     Some(Candidate { peer, route })
 }
@@ -28,9 +25,7 @@ pub fn offer(own_asn: u32, best: Option<Candidate>) -> Option<Candidate>
 pub fn export(policy: &Policy<'_>, peer: u8, offer: &Option<Candidate>) -> Option<Route>
     ensures { option_map route_of result ≡ exported_to (policy_of policy.now) peer (option_map candidate_of offer.now) }
 {
-    let Some(candidate) = *offer else {
-        return None;
-    };
+    let candidate = (*offer)?;
     if candidate.peer == peer {
         return None;
     }
@@ -40,10 +35,4 @@ pub fn export(policy: &Policy<'_>, peer: u8, offer: &Option<Candidate>) -> Optio
     };
     route.metrics.local_pref = 0;
     Some(route)
-}
-
-fn once_law() -> bool
-    ensures { OnceSteps }
-{
-    true
 }

@@ -25,8 +25,8 @@ pub struct Candidate {
     pub route: Route,
 }
 
-/// The numbers by which candidates are compared.
-#[derive(Clone, Copy)]
+/// The numbers by which candidates are compared; the better is the greater.
+#[derive(Clone, Copy, Debug, PartialEq, Eq)]
 pub struct Rank {
     local_pref: u32,
     path_len: usize,
@@ -34,12 +34,18 @@ pub struct Rank {
     peer: u8,
 }
 
-/// All that goes into what a peer should hold: who is there, what each announced, and the policies. The announcements of silent peers don't count.
+/// By what it counts what is announced: the policies, and the silent peers, whose announcements don't count.
+#[derive(Drop)]
+pub struct Terms<'a, P: PolicySource> {
+    pub policies: &'a P,
+    pub silent: PeerSet,
+}
+
+/// All that goes into what a peer should hold: who is there, what each announced, and by which terms that counts.
 #[derive(Drop)]
 pub struct View<'a, R: Rib, P: PolicySource> {
     pub own_asn: u32,
     pub peers: u8,
-    pub silent: PeerSet,
-    pub policies: &'a P,
     pub rib: &'a R,
+    pub terms: Terms<'a, P>,
 }
