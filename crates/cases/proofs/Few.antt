@@ -54,7 +54,7 @@ sent_free z rules e es room =
 
 -- what is not one of the prefixes has nothing
 not_above : (m q : ℕ) (ps : List ℕ) → falling m ps ≡ true → m ≤ q → is_in q ps ≡ false
-unfolding falling is_in
+unfolding falling
 not_above m q [] f h = refl
 not_above m q (p ∷ ps) f h =
     let parts = and_parts (ltb p m) (falling p ps) f in
@@ -62,7 +62,7 @@ not_above m q (p ∷ ps) f h =
     or_from (eqb p q) (is_in q ps) (ne_eqb p q (λ e. absurd (omega arith))) (not_above p q ps parts.1 (omega arith))
 
 row_few : (j : ℕ) (old new : ℕ → Option Route) (m : ℕ) (ps : List ℕ) → falling m ps ≡ true → ((q : ℕ) → q < m → is_in q ps ≡ false → (old q ≡ None) × (new q ≡ None)) → row j old new m ≡ row_of j old new ps
-unfolding falling is_in row row_of
+unfolding falling row row_of
 row_few j old new m [] f h = row_skips j old new 0 m (omega arith) (λ q _ l. h q l refl)
 row_few j old new m (p ∷ ps) f h =
     let parts = and_parts (ltb p m) (falling p ps) f in

@@ -31,47 +31,47 @@ worked : (c : Case) → leb (announcements (c.event ∷ c.before)) 16384 ≡ tru
 worked c room a e = of_few numbers (size_of 4) rules c.event c.before (leb-true (announcements (c.event ∷ c.before)) 16384 room) numbers_fall a ∙ e ∙ same_numbers c.sends
 
 case_a_holds : Holds case_a
-unfolding freely announcements all_of row_of updates_of all_down held_after is_listed holds through is_in same_row selected ones_in
+unfolding freely announcements all_of row_of updates_of all_down held_after through selected ones_in
 case_a_holds = worked case_a refl refl refl
 
 case_b_holds : Holds case_b
-unfolding freely announcements all_of row_of updates_of all_down held_after is_listed holds through is_in same_row selected ones_in
+unfolding freely announcements all_of row_of updates_of all_down held_after through selected ones_in
 case_b_holds = worked case_b refl refl refl
 
 case_c_holds : Holds case_c
-unfolding freely announcements all_of row_of updates_of all_down held_after is_listed holds through is_in same_row selected ones_in
+unfolding freely announcements all_of row_of updates_of all_down held_after through selected ones_in
 case_c_holds = worked case_c refl refl refl
 
 case_d_holds : Holds case_d
-unfolding freely announcements all_of row_of updates_of all_down held_after is_listed holds through is_in same_row selected ones_in
+unfolding freely announcements all_of row_of updates_of all_down held_after through selected ones_in
 case_d_holds = worked case_d refl refl refl
 
 case_e_holds : Holds case_e
-unfolding freely announcements all_of row_of updates_of all_down held_after is_listed holds through is_in same_row selected ones_in
+unfolding freely announcements all_of row_of updates_of all_down held_after through selected ones_in
 case_e_holds = worked case_e refl refl refl
 
 case_f_holds : Holds case_f
-unfolding freely announcements all_of row_of updates_of all_down held_after is_listed holds through is_in same_row selected ones_in
+unfolding freely announcements all_of row_of updates_of all_down held_after through selected ones_in
 case_f_holds = worked case_f refl refl refl
 
 case_g_holds : Holds case_g
-unfolding freely announcements all_of row_of updates_of all_down held_after is_listed holds through is_in same_row selected ones_in
+unfolding freely announcements all_of row_of updates_of all_down held_after through selected ones_in
 case_g_holds = worked case_g refl refl refl
 
 barred_holds : Holds barred
-unfolding freely announcements all_of row_of updates_of all_down held_after is_listed holds through is_in same_row selected ones_in
+unfolding freely announcements all_of row_of updates_of all_down held_after through selected ones_in
 barred_holds = worked barred refl refl refl
 
 comes_back_holds : Holds comes_back
-unfolding freely announcements all_of row_of updates_of all_down held_after is_listed holds through is_in same_row selected ones_in
+unfolding freely announcements all_of row_of updates_of all_down held_after through selected ones_in
 comes_back_holds = worked comes_back refl refl refl
 
 other_best_holds : Holds other_best
-unfolding freely announcements all_of row_of updates_of all_down held_after is_listed holds through is_in same_row selected ones_in
+unfolding freely announcements all_of row_of updates_of all_down held_after through selected ones_in
 other_best_holds = worked other_best refl refl refl
 
 repeated_holds : Holds repeated
-unfolding freely announcements all_of row_of updates_of all_down held_after is_listed holds through is_in same_row selected ones_in
+unfolding freely announcements all_of row_of updates_of all_down held_after through selected ones_in
 repeated_holds = worked repeated refl refl refl
 
 pub all_hold : WorkedCases

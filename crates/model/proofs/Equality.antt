@@ -6,14 +6,12 @@ use Rattle.route.specs.Route.{Route}
 use Rattle.std.proofs.lemmas.Bool.{eqb-true, eq-eqb, and_parts, and_from, both_ways}
 
 row_equal : (xs ys : List ℕ) → same_row xs ys ≡ true → xs ≡ ys
-unfolding same_row
 row_equal [] [] h = refl
 row_equal [] (y ∷ ys) h = absurd (both_ways false refl h)
 row_equal (x ∷ xs) [] h = absurd (both_ways false refl h)
 row_equal (x ∷ xs) (y ∷ ys) h = let parts = and_parts (eqb x y) (same_row xs ys) h in λ i. eqb-true x y parts.0 i ∷ row_equal xs ys parts.1 i
 
 row_same : (xs : List ℕ) → same_row xs xs ≡ true
-unfolding same_row
 row_same [] = refl
 row_same (x ∷ xs) = and_from (eqb x x) (same_row xs xs) (eq-eqb x x refl) (row_same xs)
 

@@ -7,17 +7,16 @@ ghost use Rattle.prefix.specs.Prefix.{number};
 ghost use Rattle.route.specs.Meant.{route_of};
 ghost use Rattle.std.specs.Option.{option_map};
 
-use peers::PeerSet;
 use prefix::Prefix;
 use rib::Rib;
 use route::Route;
-use selection::PolicySource;
+use selection::{PolicySource, Terms};
 
 mod changes;
 mod of_prefix;
 mod one;
 
-pub use of_prefix::{Offers, tell_prefix};
+pub use of_prefix::Offers;
 pub use one::tell;
 
 /// What takes updates, by what sending one does.
@@ -29,14 +28,12 @@ pub trait Sink {
         ensures { sends self.old (record { peer = peer; prefix = number (meant prefix); route = option_map (λ x. route_of x.now) route.entry }) self.new };
 }
 
-/// What counted before and what counts now, over one table: the policies, and whose announcements don't count.
+/// By what what is announced counted before, and by what it counts now, over one table.
 #[derive(Drop)]
 pub struct Change<'a, R: Rib, P: PolicySource> {
     pub own_asn: u32,
     pub peers: u8,
     pub rib: &'a R,
-    pub policies_before: &'a P,
-    pub policies_after: &'a P,
-    pub silent_before: PeerSet,
-    pub silent_after: PeerSet,
+    pub before: Terms<'a, P>,
+    pub after: Terms<'a, P>,
 }

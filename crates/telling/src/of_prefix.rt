@@ -15,64 +15,46 @@ use peers::PeerSet;
 use prefix::Prefix;
 use selection::{Candidate, PolicySource, export};
 
-/// What was offered of a prefix before, and what is now.
-#[derive(Clone, Copy)]
-pub struct Offers {
+/// What was offered of a prefix before, and what is now; to whom, and by which policies.
+#[derive(Drop)]
+pub struct Offers<'a, P: PolicySource> {
     pub prefix: Prefix,
     pub old: Option<Candidate>,
     pub new: Option<Candidate>,
+    pub up: &'a PeerSet,
+    pub policies: &'a P,
 }
 
-/// Tells each peer below `peers` whose session is up what is new for it of the prefix, in rising order.
-pub fn tell_prefix<S: Sink, P: PolicySource>(
-    sink: &mut S,
-    up: &PeerSet,
-    policies: &P,
-    peers: u8,
-    offers: &Offers,
-)
-    ensures { Chain S.Sink.sends sink.old (of_prefix (number (meant offers.entry.now.prefix)) (is_member up.now) (P.PolicySource.exports policies.now) (option_map candidate_of offers.entry.now.old) (option_map candidate_of offers.entry.now.new) peers) sink.new }
-{
-    let _ = peer_law(sink, up, policies, offers);
-    for peer in 0..peers {
-        tell_if_up(sink, up, policies, peer, offers);
+impl<P: PolicySource> Offers<'_, P> {
+    /// Tells each peer below `peers` whose session is up what is new for it of the prefix, in rising order.
+    pub fn tell_all<S: Sink>(&self, sink: &mut S, peers: u8)
+        ensures { Chain S.Sink.sends sink.old (of_prefix (number (meant self.now.prefix)) (is_member self.now.up.now) (P.PolicySource.exports self.now.policies.now) (option_map candidate_of self.now.old) (option_map candidate_of self.now.new) peers) sink.new }
+    {
+        self.peer_law(sink);
+        for peer in 0..peers {
+            self.tell_if_up(sink, peer);
+        }
     }
-}
 
-/// The same, for one peer.
-fn tell_if_up<S: Sink, P: PolicySource>(
-    sink: &mut S,
-    up: &PeerSet,
-    policies: &P,
-    peer: u8,
-    offers: &Offers,
-)
-    ensures { Chain S.Sink.sends sink.old (if is_member up.now peer then tell_if peer (number (meant offers.entry.now.prefix)) (exported_to (P.PolicySource.exports policies.now peer) peer (option_map candidate_of offers.entry.now.old)) (exported_to (P.PolicySource.exports policies.now peer) peer (option_map candidate_of offers.entry.now.new)) else []) sink.new }
-{
-    let _ = if_up_law(sink, up, policies, peer, offers);
-    if !up.contains(peer) {
-        return;
+    /// The same, for one peer.
+    fn tell_if_up<S: Sink>(&self, sink: &mut S, peer: u8)
+        ensures { Chain S.Sink.sends sink.old (if is_member self.now.up.now peer then tell_if peer (number (meant self.now.prefix)) (exported_to (P.PolicySource.exports self.now.policies.now peer) peer (option_map candidate_of self.now.old)) (exported_to (P.PolicySource.exports self.now.policies.now peer) peer (option_map candidate_of self.now.new)) else []) sink.new }
+    {
+        self.if_up_law(sink, peer);
+        if !self.up.contains(peer) {
+            return;
+        }
+        let policy = self.policies.export_policy(peer);
+        let old = export(&policy, peer, &self.old);
+        let new = export(&policy, peer, &self.new);
+        tell(sink, peer, self.prefix, &old, &new);
     }
-    let policy = policies.export_policy(peer);
-    let old = export(&policy, peer, &offers.old);
-    let new = export(&policy, peer, &offers.new);
-    tell(sink, peer, offers.prefix, &old, &new);
-}
 
-fn peer_law<S: Sink, P: PolicySource>(sink: &S, up: &PeerSet, policies: &P, offers: &Offers) -> bool
-    ensures { PeerSteps S.Sink.sends (number (meant offers.entry.now.prefix)) (is_member up.now) (P.PolicySource.exports policies.now) (option_map candidate_of offers.entry.now.old) (option_map candidate_of offers.entry.now.new) }
-{
-    true
-}
+    fn peer_law<S: Sink>(&self, sink: &S)
+        ensures { PeerSteps S.Sink.sends (number (meant self.now.prefix)) (is_member self.now.up.now) (P.PolicySource.exports self.now.policies.now) (option_map candidate_of self.now.old) (option_map candidate_of self.now.new) }
+    {}
 
-fn if_up_law<S: Sink, P: PolicySource>(
-    sink: &S,
-    up: &PeerSet,
-    policies: &P,
-    peer: u8,
-    offers: &Offers,
-) -> bool
-    ensures { IfUpSteps S.Sink.sends (is_member up.now peer) (tell_if peer (number (meant offers.entry.now.prefix)) (exported_to (P.PolicySource.exports policies.now peer) peer (option_map candidate_of offers.entry.now.old)) (exported_to (P.PolicySource.exports policies.now peer) peer (option_map candidate_of offers.entry.now.new))) }
-{
-    true
+    fn if_up_law<S: Sink>(&self, sink: &S, peer: u8)
+        ensures { IfUpSteps S.Sink.sends (is_member self.now.up.now peer) (tell_if peer (number (meant self.now.prefix)) (exported_to (P.PolicySource.exports self.now.policies.now peer) peer (option_map candidate_of self.now.old)) (exported_to (P.PolicySource.exports self.now.policies.now peer) peer (option_map candidate_of self.now.new))) }
+    {}
 }

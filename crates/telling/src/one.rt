@@ -9,7 +9,7 @@ ghost use Rattle.telling.specs.Steps.{TellSteps};
 
 use crate::Sink;
 use prefix::Prefix;
-use route::{Route, same_option};
+use route::Route;
 
 /// Tells the peer what it should hold of the prefix, if that isn't what it holds.
 pub fn tell<S: Sink>(
@@ -21,21 +21,12 @@ pub fn tell<S: Sink>(
 )
     ensures { Chain S.Sink.sends sink.old (tell_if peer (number (meant prefix)) (option_map route_of old.now) (option_map route_of new.now)) sink.new }
 {
-    let _ = tell_law(sink, peer, prefix, old, new);
-    if same_option(new, old) {
-        return;
+    tell_law(sink, peer, prefix, old, new);
+    if new != old {
+        sink.send(peer, prefix, new.as_ref());
     }
-    sink.send(peer, prefix, new.as_ref());
 }
 
-fn tell_law<S: Sink>(
-    sink: &S,
-    peer: u8,
-    prefix: Prefix,
-    old: &Option<Route>,
-    new: &Option<Route>,
-) -> bool
+fn tell_law<S: Sink>(sink: &S, peer: u8, prefix: Prefix, old: &Option<Route>, new: &Option<Route>)
     ensures { TellSteps S.Sink.sends peer (number (meant prefix)) (option_map route_of old.now) (option_map route_of new.now) }
-{
-    true
-}
+{}
