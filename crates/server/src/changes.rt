@@ -1,32 +1,37 @@
 //! The inner steps that can change what is held of any prefix.
 ghost use Rattle.std.specs.Prelude.{◌≡◌, ℕ, ◌&&◌, if◌then◌else◌, None, nat_lt};
 ghost use Rattle.peers.specs.Members.{is_member};
-ghost use Rattle.selection.specs.Meant.{rules_of};
+ghost use Rattle.selection.specs.Meant.{rules_in};
+ghost use Rattle.server.specs.Meant.{SameRules, rules_of_server};
 ghost use Rattle.server.specs.Facts.{Replaced, SameSilence, Silenced, Welcomed, everybody, nobody};
 
 use crate::Server;
 use peers::PeerSet;
 use rib::Rib;
-use selection::PolicySource;
+use selection::{PolicySource, Terms};
 use telling::{Change, Sink};
 
 impl<R: Rib, P: PolicySource> Server<R, P> {
     /// Takes the sessions of a set down: their announcements are gone, and the other peers are told what is new.
     pub(crate) fn silence<S: Sink>(&mut self, sink: &mut S, down: &PeerSet)
-        ensures same { (self.new.own_asn ≡ self.old.own_asn) × (self.new.peers ≡ self.old.peers) × (self.new.policies ≡ self.old.policies) }
-        ensures after { Silenced S.Sink.sends (rules_of self.old.own_asn (P.PolicySource.imports self.old.policies) (P.PolicySource.exports self.old.policies)) self.old.peers (is_member down.now) (R.Rib.received self.old.rib) (R.Rib.received self.new.rib) (is_member self.old.up) (is_member self.new.up) sink.old sink.new }
+        ensures same { SameRules self.old self.new }
+        ensures after { Silenced S.Sink.sends (rules_of_server P.PolicySource self.old) self.old.peers (is_member down.now) (R.Rib.received self.old.rib) (R.Rib.received self.new.rib) (is_member self.old.up) (is_member self.new.up) sink.old sink.new }
     {
         let none = PeerSet::none();
         let up = self.up.without(down);
-        let _ = self.silence_law(sink, &none, down, &up);
+        self.silence_law(sink, &none, down, &up);
         let change = Change {
             own_asn: self.own_asn,
             peers: self.peers,
             rib: &self.rib,
-            policies_before: &self.policies,
-            policies_after: &self.policies,
-            silent_before: none,
-            silent_after: *down,
+            before: Terms {
+                policies: &self.policies,
+                silent: none,
+            },
+            after: Terms {
+                policies: &self.policies,
+                silent: *down,
+            },
         };
         change.tell_all(sink, &up);
         self.up = up;
@@ -35,20 +40,24 @@ impl<R: Rib, P: PolicySource> Server<R, P> {
 
     /// Brings a peer's session up: it is told from the start all that it should hold.
     pub(crate) fn welcome<S: Sink>(&mut self, sink: &mut S, peer: u8)
-        ensures same { (self.new.own_asn ≡ self.old.own_asn) × (self.new.peers ≡ self.old.peers) × (self.new.policies ≡ self.old.policies) }
-        ensures after { Welcomed S.Sink.sends (rules_of self.old.own_asn (P.PolicySource.imports self.old.policies) (P.PolicySource.exports self.old.policies)) self.old.peers peer (R.Rib.received self.old.rib) (R.Rib.received self.new.rib) (is_member self.old.up) (is_member self.new.up) sink.old sink.new }
+        ensures same { SameRules self.old self.new }
+        ensures after { Welcomed S.Sink.sends (rules_of_server P.PolicySource self.old) self.old.peers peer (R.Rib.received self.old.rib) (R.Rib.received self.new.rib) (is_member self.old.up) (is_member self.new.up) sink.old sink.new }
     {
         let all = PeerSet::all();
         let none = PeerSet::none();
-        let _ = self.welcome_law(sink, &all, &none, peer);
+        self.welcome_law(sink, &all, &none, peer);
         let change = Change {
             own_asn: self.own_asn,
             peers: self.peers,
             rib: &self.rib,
-            policies_before: &self.policies,
-            policies_after: &self.policies,
-            silent_before: all,
-            silent_after: none,
+            before: Terms {
+                policies: &self.policies,
+                silent: all,
+            },
+            after: Terms {
+                policies: &self.policies,
+                silent: none,
+            },
         };
         change.tell_peer(sink, peer);
         self.up.set(peer, true);
@@ -58,40 +67,40 @@ impl<R: Rib, P: PolicySource> Server<R, P> {
     pub(crate) fn replace<S: Sink>(&mut self, sink: &mut S, policies: &mut P)
         ensures same { (self.new.own_asn ≡ self.old.own_asn) × (self.new.peers ≡ self.old.peers) × (self.new.up ≡ self.old.up) }
         ensures policies { (self.new.policies ≡ policies.old) × (policies.new ≡ self.old.policies) }
-        ensures after { Replaced S.Sink.sends (rules_of self.old.own_asn (P.PolicySource.imports self.old.policies) (P.PolicySource.exports self.old.policies)) (rules_of self.old.own_asn (P.PolicySource.imports policies.old) (P.PolicySource.exports policies.old)) self.old.peers (R.Rib.received self.old.rib) (R.Rib.received self.new.rib) (is_member self.old.up) sink.old sink.new }
+        ensures after { Replaced S.Sink.sends (rules_of_server P.PolicySource self.old) (rules_in P.PolicySource self.old.own_asn policies.old) self.old.peers (R.Rib.received self.old.rib) (R.Rib.received self.new.rib) (is_member self.old.up) sink.old sink.new }
     {
         let none = PeerSet::none();
-        let _ = self.replace_law(sink, policies, &none);
+        self.replace_law(sink, policies, &none);
+        let before = Terms {
+            policies: &self.policies,
+            silent: none,
+        };
+        let after = Terms {
+            policies: &*policies,
+            silent: none,
+        };
         let change = Change {
             own_asn: self.own_asn,
             peers: self.peers,
             rib: &self.rib,
-            policies_before: &self.policies,
-            policies_after: &*policies,
-            silent_before: none,
-            silent_after: none,
+            before,
+            after,
         };
         change.tell_all(sink, &self.up);
         std::mem::swap(&mut self.policies, policies);
     }
 
-    fn welcome_law<S: Sink>(&self, sink: &S, all: &PeerSet, none: &PeerSet, peer: u8) -> bool
-        ensures { SameSilence S.Sink.sends (rules_of self.now.own_asn (P.PolicySource.imports self.now.policies) (P.PolicySource.exports self.now.policies)) (rules_of self.now.own_asn (P.PolicySource.imports self.now.policies) (P.PolicySource.exports self.now.policies)) self.now.peers (is_member all.now) (is_member none.now) everybody nobody (is_member self.now.up) (R.Rib.received self.now.rib) peer }
-    {
-        true
-    }
+    fn welcome_law<S: Sink>(&self, sink: &S, all: &PeerSet, none: &PeerSet, peer: u8)
+        ensures { SameSilence S.Sink.sends (rules_of_server P.PolicySource self.now) (rules_of_server P.PolicySource self.now) self.now.peers (is_member all.now) (is_member none.now) everybody nobody (is_member self.now.up) (R.Rib.received self.now.rib) peer }
+    {}
 
-    fn replace_law<S: Sink>(&self, sink: &S, policies: &P, none: &PeerSet) -> bool
-        ensures { SameSilence S.Sink.sends (rules_of self.now.own_asn (P.PolicySource.imports self.now.policies) (P.PolicySource.exports self.now.policies)) (rules_of self.now.own_asn (P.PolicySource.imports policies.now) (P.PolicySource.exports policies.now)) self.now.peers (is_member none.now) (is_member none.now) nobody nobody (is_member self.now.up) (R.Rib.received self.now.rib) 0 }
-    {
-        true
-    }
+    fn replace_law<S: Sink>(&self, sink: &S, policies: &P, none: &PeerSet)
+        ensures { SameSilence S.Sink.sends (rules_of_server P.PolicySource self.now) (rules_in P.PolicySource self.now.own_asn policies.now) self.now.peers (is_member none.now) (is_member none.now) nobody nobody (is_member self.now.up) (R.Rib.received self.now.rib) 0 }
+    {}
 
-    fn silence_law<S: Sink>(&self, sink: &S, none: &PeerSet, down: &PeerSet, up: &PeerSet) -> bool
-        ensures { SameSilence S.Sink.sends (rules_of self.now.own_asn (P.PolicySource.imports self.now.policies) (P.PolicySource.exports self.now.policies)) (rules_of self.now.own_asn (P.PolicySource.imports self.now.policies) (P.PolicySource.exports self.now.policies)) self.now.peers (is_member none.now) (is_member down.now) nobody (is_member down.now) (is_member up.now) (R.Rib.received self.now.rib) 0 }
-    {
-        true
-    }
+    fn silence_law<S: Sink>(&self, sink: &S, none: &PeerSet, down: &PeerSet, up: &PeerSet)
+        ensures { SameSilence S.Sink.sends (rules_of_server P.PolicySource self.now) (rules_of_server P.PolicySource self.now) self.now.peers (is_member none.now) (is_member down.now) nobody (is_member down.now) (is_member up.now) (R.Rib.received self.now.rib) 0 }
+    {}
 }
 
 /// Forgets what the peers of a set announced, of those below `peers`.

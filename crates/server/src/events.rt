@@ -7,21 +7,22 @@ ghost use Rattle.prefix.specs.Meant.{meant};
 ghost use Rattle.prefix.specs.Prefix.{number};
 ghost use Rattle.rib.specs.Received.{most_peers};
 ghost use Rattle.route.specs.Meant.{route_of};
-ghost use Rattle.selection.specs.Meant.{rules_of};
-ghost use Rattle.server.specs.Meant.{members_below, now_of, size_of};
+ghost use Rattle.selection.specs.Meant.{rules_in};
+ghost use Rattle.server.specs.Meant.{members_below, now_in, size_of};
 
 use crate::Server;
 use peers::PeerSet;
 use prefix::Prefix;
 use rib::Rib;
 use route::Route;
+use rows::Full;
 use selection::PolicySource;
 use telling::Sink;
 
 impl<R: Rib, P: PolicySource> Server<R, P> {
     /// A server for so many peers, at most 64, with no session up. It stands before any event if the table is empty.
     pub fn new(own_asn: u32, peers: u8, policies: P, rib: R) -> Result<Server<R, P>, (P, R)>
-        ensures { MatchResult result (λ s. (s.peers ≡ peers) × (peers ≤ most_peers) × (((i p : ℕ) → R.Rib.received rib i p ≡ None) → Stands (size_of peers) (rules_of own_asn (P.PolicySource.imports policies) (P.PolicySource.exports policies)) (now_of s.own_asn (P.PolicySource.imports s.policies) (P.PolicySource.exports s.policies) s.up (R.Rib.received s.rib)) [])) (λ back. (most_peers < peers) × (back.0 ≡ policies) × (back.1 ≡ rib)) }
+        ensures { MatchResult result (λ s. (s.peers ≡ peers) × (peers ≤ most_peers) × (((i p : ℕ) → R.Rib.received rib i p ≡ None) → Stands (size_of peers) (rules_in P.PolicySource own_asn policies) (now_in R.Rib P.PolicySource s) [])) (λ back. (most_peers < peers) × (back.0 ≡ policies) × (back.1 ≡ rib)) }
     {
         if peers > 64 {
             return Err((policies, rib));
@@ -38,32 +39,33 @@ impl<R: Rib, P: PolicySource> Server<R, P> {
     /// A peer announces a route. It counts if the peer's session is up; where there is no room for it, the session goes down.
     pub fn announce<S: Sink>(&mut self, sink: &mut S, peer: u8, route: &Route)
         ensures same_size { self.new.peers ≡ self.old.peers }
-        ensures promise { Promised (size_of self.old.peers) (Announces peer (route_of route.now)) (now_of self.old.own_asn (P.PolicySource.imports self.old.policies) (P.PolicySource.exports self.old.policies) self.old.up (R.Rib.received self.old.rib)) (now_of self.new.own_asn (P.PolicySource.imports self.new.policies) (P.PolicySource.exports self.new.policies) self.new.up (R.Rib.received self.new.rib)) S.Sink.sends sink.old sink.new }
+        ensures promise { Promised (size_of self.old.peers) (Announces peer (route_of route.now)) (now_in R.Rib P.PolicySource self.old) (now_in R.Rib P.PolicySource self.new) S.Sink.sends sink.old sink.new }
     {
         if !self.hears(peer) {
             return;
         }
-        if self.keep(sink, peer, route) {
-            return;
+        match self.keep(sink, peer, route) {
+            Ok(()) => {}
+            Err(Full) => self.silence(sink, &PeerSet::only(peer)),
         }
-        self.silence(sink, &PeerSet::only(peer));
     }
 
     /// A peer withdraws a prefix.
     pub fn withdraw<S: Sink>(&mut self, sink: &mut S, peer: u8, prefix: Prefix)
         ensures same_size { self.new.peers ≡ self.old.peers }
-        ensures promise { Promised (size_of self.old.peers) (Withdraws peer (number (meant prefix))) (now_of self.old.own_asn (P.PolicySource.imports self.old.policies) (P.PolicySource.exports self.old.policies) self.old.up (R.Rib.received self.old.rib)) (now_of self.new.own_asn (P.PolicySource.imports self.new.policies) (P.PolicySource.exports self.new.policies) self.new.up (R.Rib.received self.new.rib)) S.Sink.sends sink.old sink.new }
+        ensures promise { Promised (size_of self.old.peers) (Withdraws peer (number (meant prefix))) (now_in R.Rib P.PolicySource self.old) (now_in R.Rib P.PolicySource self.new) S.Sink.sends sink.old sink.new }
     {
         if self.hears(peer) {
             self.forget(sink, peer, prefix);
         }
     }
 
-    /// A peer's session is established: it is told from the start. False, and nothing is done, where there is no such peer or its session is up already.
+    /// A peer's session is established: it is told from the start. False, and nothing is done, where there is no such peer or its session is up already;
+    /// a bool, as of a set's `insert`, since an error would carry nothing.
     pub fn establish<S: Sink>(&mut self, sink: &mut S, peer: u8) -> bool
         ensures same_size { self.new.peers ≡ self.old.peers }
         ensures answer { result ≡ (nat_lt peer self.old.peers && not (is_member self.old.up peer)) }
-        ensures promise { MatchBool result (Promised (size_of self.old.peers) (Establishes peer) (now_of self.old.own_asn (P.PolicySource.imports self.old.policies) (P.PolicySource.exports self.old.policies) self.old.up (R.Rib.received self.old.rib)) (now_of self.new.own_asn (P.PolicySource.imports self.new.policies) (P.PolicySource.exports self.new.policies) self.new.up (R.Rib.received self.new.rib)) S.Sink.sends sink.old sink.new) ((self.new ≡ self.old) × (sink.new ≡ sink.old)) }
+        ensures promise { MatchBool result (Promised (size_of self.old.peers) (Establishes peer) (now_in R.Rib P.PolicySource self.old) (now_in R.Rib P.PolicySource self.new) S.Sink.sends sink.old sink.new) ((self.new ≡ self.old) × (sink.new ≡ sink.old)) }
     {
         if peer >= self.peers || self.up.contains(peer) {
             return false;
@@ -75,7 +77,7 @@ impl<R: Rib, P: PolicySource> Server<R, P> {
     /// The sessions of a set of peers go down, at one moment.
     pub fn take_down<S: Sink>(&mut self, sink: &mut S, down: &PeerSet)
         ensures same_size { self.new.peers ≡ self.old.peers }
-        ensures promise { Promised (size_of self.old.peers) (GoDown (members_below self.old.peers (is_member down.now))) (now_of self.old.own_asn (P.PolicySource.imports self.old.policies) (P.PolicySource.exports self.old.policies) self.old.up (R.Rib.received self.old.rib)) (now_of self.new.own_asn (P.PolicySource.imports self.new.policies) (P.PolicySource.exports self.new.policies) self.new.up (R.Rib.received self.new.rib)) S.Sink.sends sink.old sink.new }
+        ensures promise { Promised (size_of self.old.peers) (GoDown (members_below self.old.peers (is_member down.now))) (now_in R.Rib P.PolicySource self.old) (now_in R.Rib P.PolicySource self.new) S.Sink.sends sink.old sink.new }
     {
         self.silence(sink, down);
     }
@@ -84,7 +86,7 @@ impl<R: Rib, P: PolicySource> Server<R, P> {
     pub fn put_in_force<S: Sink>(&mut self, sink: &mut S, policies: &mut P)
         ensures same_size { self.new.peers ≡ self.old.peers }
         ensures old { policies.new ≡ self.old.policies }
-        ensures promise { Promised (size_of self.old.peers) (PutInForce (P.PolicySource.imports policies.old) (P.PolicySource.exports policies.old)) (now_of self.old.own_asn (P.PolicySource.imports self.old.policies) (P.PolicySource.exports self.old.policies) self.old.up (R.Rib.received self.old.rib)) (now_of self.new.own_asn (P.PolicySource.imports self.new.policies) (P.PolicySource.exports self.new.policies) self.new.up (R.Rib.received self.new.rib)) S.Sink.sends sink.old sink.new }
+        ensures promise { Promised (size_of self.old.peers) (PutInForce (P.PolicySource.imports policies.old) (P.PolicySource.exports policies.old)) (now_in R.Rib P.PolicySource self.old) (now_in R.Rib P.PolicySource self.new) S.Sink.sends sink.old sink.new }
     {
         self.replace(sink, policies);
     }

@@ -14,7 +14,7 @@ returns-then-hears g c =
       same_size = same.1;
       promise =
           promised_kept g.P.PolicySource.imports g.P.PolicySource.exports g.S.Sink.sends was (parts c.forget.new.self.own_asn c.forget.new.self.peers c.forget.new.self.policies c.forget.new.self.up (g.R.Rib.received c.forget.new.self.rib)) c.args.sink.now c.forget.new.sink (Withdraws c.args.peer (number (meant c.args.prefix))) c.args.peer (number (meant c.args.prefix)) None (record { begins_nothing = refl }) (λ s. refl) (sym c.if-hears.ensures) (bounded (meant c.args.prefix) c.args.prefix.valid)
-          (room_withdrawn g.P.PolicySource.imports g.P.PolicySource.exports g.S.Sink.sends was c.args.peer (number (meant c.args.prefix))) same.0 same.2 same.3 c.forget.ensures.after;
+          (room_withdrawn g.P.PolicySource.imports g.P.PolicySource.exports g.S.Sink.sends was c.args.peer (number (meant c.args.prefix))) same.0 same.2 c.forget.ensures.up c.forget.ensures.after;
     }
 
 pub returns-else-hears : goal.returns-else-hears
