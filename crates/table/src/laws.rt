@@ -10,60 +10,42 @@ use crate::Table;
 use prefix::Prefix;
 use route::Route;
 
-pub fn empty_law() -> bool
+pub fn empty_law()
     ensures { EmptyLaw }
-{
-    true
-}
+{}
 
-pub fn lookup_law() -> bool
+pub fn lookup_law()
     ensures { LookupLaws }
-{
-    true
-}
+{}
 
-pub fn walk_law() -> bool
+pub fn walk_law()
     ensures { WalkLaws }
-{
-    true
-}
+{}
 
-pub fn kept_law() -> bool
+pub fn kept_law()
     ensures { KeptSteps }
-{
-    true
-}
+{}
 
 impl Table {
-    pub fn count_law(&self) -> bool
+    pub fn count_law(&self)
         ensures { CountLaw self.now.keys.items self.now.routes.items }
-    {
-        true
-    }
+    {}
 
-    pub fn overwrite_law(&self, peer: u8, i: usize, route: &Route) -> bool
+    pub fn overwrite_law(&self, peer: u8, i: usize, route: &Route)
         requires { (peer < most_peers) × (Found self.now.keys.items (key_of peer (number (meant route.now.prefix))) i) }
         ensures { OverwriteLaw self.now.keys.items self.now.routes.items peer i route.now }
-    {
-        true
-    }
+    {}
 
-    pub fn add_law(&self, peer: u8, i: usize, route: &Route) -> bool
+    pub fn add_law(&self, peer: u8, i: usize, route: &Route)
         requires { (peer < most_peers) × (Absent self.now.keys.items (key_of peer (number (meant route.now.prefix))) i) }
         ensures { AddLaw self.now.keys.items self.now.routes.items peer i route.now }
-    {
-        true
-    }
+    {}
 
-    pub fn remove_law(&self, peer: u8, prefix: &Prefix) -> bool
+    pub fn remove_law(&self, peer: u8, prefix: &Prefix)
         ensures { RemoveLaws self.now.keys.items self.now.routes.items peer (number (meant prefix.now)) }
-    {
-        true
-    }
+    {}
 
-    pub fn clear_law(&self, peer: u8) -> bool
+    pub fn clear_law(&self, peer: u8)
         ensures { ClearLaw self.now.keys.items self.now.routes.items peer }
-    {
-        true
-    }
+    {}
 }

@@ -12,6 +12,7 @@ use crate::vecs::{cut, insert, keep_others, replace};
 use prefix::{COUNT, Prefix};
 use rib::Rib;
 use route::Route;
+use rows::Full;
 use std::alloc::{AllocError, Global};
 
 /// How many routes there is room for, and how many peers there can be.
@@ -24,7 +25,7 @@ impl Table {
     pub fn new(heap: Global) -> Result<Table, AllocError>
         ensures { IfOk result (λ t. (peer prefix : ℕ) → received_by t peer prefix ≡ None) }
     {
-        let _ = empty_law();
+        empty_law();
         let keys = Vec::with_capacity(heap, CAPACITY)?;
         let routes = Vec::with_capacity(heap, CAPACITY)?;
         Ok(Table { keys, routes })
@@ -49,7 +50,7 @@ impl Rib for Table {
     ghost received = { received_by };
 
     fn get(&self, peer: u8, prefix: Prefix) -> Option<&Route> {
-        let _ = lookup_law();
+        lookup_law();
         match self.find(peer, &prefix) {
             Ok(i) => Some(&self.routes[i]),
             Err(_) => None,
@@ -57,7 +58,7 @@ impl Rib for Table {
     }
 
     fn next_peer(&self, prefix: Prefix, from: u8, until: u8) -> Option<u8> {
-        let _ = walk_law();
+        walk_law();
         let start = key_of(0, &prefix);
         let keys = self.keys.as_slice();
         match self.first_between(start + u64::from(from), start + u64::from(until)) {
@@ -67,7 +68,7 @@ impl Rib for Table {
     }
 
     fn next_prefix(&self, from: u32) -> Option<Prefix> {
-        let _ = walk_law();
+        walk_law();
         match self.first_between(u64::from(from) * STRIDE, u64::from(COUNT) * STRIDE) {
             Some(i) => Some(self.routes[i].prefix),
             None => None,
@@ -75,34 +76,34 @@ impl Rib for Table {
     }
 
     fn len(&self) -> usize {
-        let _ = self.count_law();
+        self.count_law();
         self.keys.len()
     }
 
-    fn put(&mut self, peer: u8, route: &Route) -> bool {
+    fn put(&mut self, peer: u8, route: &Route) -> Result<(), Full> {
         if peer >= MOST_PEERS {
-            return false;
+            return Err(Full);
         }
         match self.find(peer, &route.prefix) {
             Ok(i) => {
-                let _ = self.overwrite_law(peer, i, route);
+                self.overwrite_law(peer, i, route);
                 replace(&mut self.routes, i, route);
-                true
+                Ok(())
             }
             Err(i) => {
-                let _ = self.add_law(peer, i, route);
+                self.add_law(peer, i, route);
                 if self.keys.len() >= CAPACITY {
-                    return false;
+                    return Err(Full);
                 }
                 insert(&mut self.keys, i, key_of(peer, &route.prefix));
                 insert(&mut self.routes, i, *route);
-                true
+                Ok(())
             }
         }
     }
 
     fn remove(&mut self, peer: u8, prefix: Prefix) {
-        let _ = self.remove_law(peer, &prefix);
+        self.remove_law(peer, &prefix);
         match self.find(peer, &prefix) {
             Ok(i) => {
                 cut(&mut self.keys, i);
@@ -113,7 +114,7 @@ impl Rib for Table {
     }
 
     fn clear(&mut self, peer: u8) {
-        let _ = self.clear_law(peer);
+        self.clear_law(peer);
         keep_others(&mut self.keys, &mut self.routes, peer);
     }
 }

@@ -53,7 +53,7 @@ fn move_to_front(keys: &mut [u64], routes: &mut [Route], peer: u8) -> usize
     ensures keys { take result keys.new ≡ kept_keys peer keys.old }
     ensures routes { take result routes.new ≡ kept_routes peer keys.old routes.old }
 {
-    let _ = kept_law();
+    kept_law();
     let mut others = 0;
     for i in 0..keys.len() {
         let key = keys[i];
