@@ -7,10 +7,8 @@ use Rattle.cases.specs.Cases.{Advertised, update_by, Case, rules, Holds, AllHold
 use Rattle.cases.specs.Few.{place, freely, announcements, all_of, falling, row_of, updates_of, sent_of}
 use Rattle.model.specs.Model.{all_down}
 use Rattle.model.specs.Updates.{held_after}
-use Rattle.policy.specs.Policy.{is_listed, holds, through}
+use Rattle.policy.specs.Policy.{through}
 use Rattle.prefix.specs.Prefix.{number}
-use Rattle.route.specs.Numbers.{is_in}
-use Rattle.route.specs.Same.{same_row}
 use Rattle.selection.specs.Intended.{selected}
 use Rattle.server.specs.Meant.{size_of}
 use Rattle.std.proofs.lemmas.Bool.{leb-true}
