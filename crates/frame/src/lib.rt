@@ -1,7 +1,7 @@
 //! Events of a route server in bytes: framed, one after the other, high byte first.
 #![tactic(auto)]
 
-mod bytes;
+mod beginning;
 pub mod event;
 mod kind;
 pub mod reading;

@@ -3,15 +3,10 @@ ghost use Rattle.std.specs.Prelude.{◌≡◌, ◌≤◌, length};
 
 pub(crate) mod content;
 
+pub use peers::Peer;
+
 /// The most peers that a route server has.
 pub const MAX_PEERS: usize = 64;
-
-/// A peer: its autonomous system and its address.
-#[derive(Clone, Copy, Debug, PartialEq, Eq)]
-pub struct Peer {
-    pub asn: u32,
-    pub address: u32,
-}
 
 /// The server's own autonomous system and address, and its peers, numbered from 0.
 #[derive(Clone, Copy)]
