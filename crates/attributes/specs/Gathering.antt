@@ -1,7 +1,12 @@
 -- Reading a path segment by segment. Assumes nothing.
 use Rattle.std.specs.Prelude.{ℕ, ◌+◌, cond, ◌&&◌, List, [], ◌∷◌, ◌++◌, length, Some, None, Option, ◌==◌, nat_le, nat_lt, slice_index}
 use Rattle.attributes.specs.AsPath.{Reading, got, fault, segment_size, asns_in, is_sequence}
+use Rattle.wire.specs.Bytes.{numbers}
 use Rattle.wire.specs.Pieces.{pieces, overruns}
+
+-- the numbers so far with those of the bytes, if there is room for them
+unfoldable pub with_numbers : ℕ → List ℕ → List ℕ → Option (List ℕ)
+with_numbers room ns bs = cond (nat_le (length ns + length (numbers bs)) room) (Some (ns ++ numbers bs)) None
 
 -- the networks so far with those of one more segment, if it is a sequence and there is room for them
 unfoldable pub with_segment : ℕ → Option (List ℕ) → List ℕ → Option (List ℕ)
