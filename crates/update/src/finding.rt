@@ -1,14 +1,16 @@
 //! Reading the attributes one by one.
 ghost use Rattle.std.specs.Prelude.{◌≡◌};
 ghost use Rattle.attributes.specs.AsPath.{fault as failed};
+ghost use Rattle.attributes.specs.Layout.{type_of};
 ghost use Rattle.attributes.specs.Meant.{meaning_of, peer_of, reading_of};
 ghost use Rattle.fault.specs.Fault.{code};
-ghost use Rattle.update.specs.Finding.{add, find_all, no_types, nothing_found, read_once, take_reading, take_value, types_in, with_type};
+ghost use Rattle.update.specs.Finding.{add, find_all, no_types, noted, nothing_found, read_once, take_reading, take_value, types_in, with_type};
 ghost use Rattle.update.specs.Meant.{found_of};
 
 use attributes::{Peer, Value, attribute_size, read_attribute};
 use fault::Fault;
 use route::{Communities, Path};
+use std::mem;
 use wire::{byte_at, cut};
 
 /// The types of the attributes so far.
@@ -33,10 +35,7 @@ impl Seen {
         ensures before { result ≡ types_in self.old.types number }
         ensures after { types_in self.new.types ≡ with_type number (types_in self.old.types) }
     {
-        let place = usize::from(number);
-        let before = self.types[place];
-        self.types[place] = true;
-        before
+        mem::replace(&mut self.types[usize::from(number)], true)
     }
 }
 
@@ -77,23 +76,26 @@ impl Found {
         self.fault = Some(lowest);
     }
 
-    /// Takes in one more attribute.
+    /// Takes in one more attribute: what it says, or its fault.
     #[tactic(auto, unfolding(crate::specs::Finding::add))]
     fn add(&mut self, attribute: &[u8], peer: Peer)
         ensures { found_of self.new ≡ add (peer_of peer) (found_of self.old) attribute.now }
     {
-        let again = self.seen.add(byte_at(attribute, 1));
-        self.take(read_once(again, attribute, peer));
-    }
-
-    /// Takes in what an attribute says, or notes its fault.
-    fn take(&mut self, reading: Result<Value, Fault>)
-        ensures { found_of self.new ≡ take_reading (reading_of meaning_of reading) (found_of self.old) }
-    {
-        match reading {
+        match self.read_once(attribute, peer) {
             Ok(value) => self.take_value(value),
             Err(fault) => self.note(fault),
         }
+    }
+
+    /// What an attribute says. One whose type was there before is a fault.
+    fn read_once(&mut self, attribute: &[u8], peer: Peer) -> Result<Value, Fault>
+        ensures reading { reading_of meaning_of result ≡ read_once ((found_of self.old).types (type_of attribute.now)) (peer_of peer) attribute.now }
+        ensures noted { found_of self.new ≡ noted (type_of attribute.now) (found_of self.old) }
+    {
+        if self.seen.add(byte_at(attribute, 1)) {
+            return Err(Fault::Attribute);
+        }
+        read_attribute(attribute, peer)
     }
 
     fn take_value(&mut self, value: Value)
@@ -122,14 +124,4 @@ pub fn read_attributes(attributes: &[u8], peer: Peer) -> Result<Found, Fault>
         rest = after;
     }
     Ok(found)
-}
-
-/// An attribute whose type was there before is a fault.
-fn read_once(again: bool, attribute: &[u8], peer: Peer) -> Result<Value, Fault>
-    ensures { reading_of meaning_of result ≡ read_once again (peer_of peer) attribute.now }
-{
-    if again {
-        return Err(Fault::Attribute);
-    }
-    read_attribute(attribute, peer)
 }
