@@ -1,10 +1,11 @@
 //! The kinds of frames, and how many bytes a frame has.
-ghost use Rattle.std.specs.Prelude.{◌≡◌, length, ok_or, Some};
-ghost use Rattle.frame.specs.Size.{kind_of, size_of};
-ghost use Rattle.frame.specs.declared.beginning.Unframed.TheVariants.{Unknown};
+ghost use Rattle.std.specs.Prelude.{◌≡◌, length, ok_or, MatchResult, Some};
+ghost use Rattle.frame.specs.Size.{begins, framed, kind_of, size_of};
+ghost use Rattle.frame.specs.Unread.{unread_by};
+ghost use Rattle.frame.specs.declared.event.Defect.TheVariants.{UnknownKind};
 
-use crate::beginning::Unframed;
-use wire::{skip, u16_of, u32_of};
+use crate::event::{Defect, Refusal, Unread};
+use wire::{first, skip, u16_of, u32_of};
 
 /// What a frame is, by its first byte.
 #[derive(Clone, Copy, Debug, PartialEq, Eq)]
@@ -17,18 +18,18 @@ pub enum Kind {
 }
 
 impl TryFrom<u8> for Kind {
-    type Error = Unframed;
+    type Error = Defect;
 
-    ghost try_from_gives = { λ byte result. result ≡ ok_or (kind_of byte) Unknown };
+    ghost try_from_gives = { λ byte result. result ≡ ok_or (kind_of byte) UnknownKind };
 
-    fn try_from(byte: u8) -> Result<Kind, Unframed> {
+    fn try_from(byte: u8) -> Result<Kind, Defect> {
         match byte {
             1 => Ok(Kind::Message),
             2 => Ok(Kind::Session),
             3 => Ok(Kind::Tick),
             4 => Ok(Kind::PolicyText),
             5 => Ok(Kind::Settings),
-            _ => Err(Unframed::Unknown),
+            _ => Err(Defect::UnknownKind),
         }
     }
 }
@@ -59,4 +60,26 @@ pub struct Frame<'a> {
     pub kind: Kind,
     pub bytes: &'a [u8],
     ghost whole: { size_of kind bytes.now ≡ Some (length bytes.now) },
+}
+
+/// Cuts off the first frame; one that is too long is refused for that.
+pub fn first_frame(bytes: &[u8], too_long: Refusal) -> Result<Frame<'_>, Unread>
+    ensures { MatchResult result (λ f. begins bytes.now ≡ framed f.kind f.bytes.now) (λ u. unread_by too_long (begins bytes.now) ≡ Some u) }
+{
+    let byte = bytes.first().ok_or(Unread::More)?;
+    let kind = Kind::try_from(*byte)?;
+    let size = kind.size_of(bytes).ok_or(Unread::More)?;
+    if size > LARGEST_FRAME {
+        return Err(Unread::Refused {
+            refusal: too_long,
+            size,
+        });
+    }
+    if bytes.len() < size {
+        return Err(Unread::More);
+    }
+    Ok(Frame {
+        kind,
+        bytes: first(bytes, size),
+    })
 }

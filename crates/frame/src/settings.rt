@@ -13,7 +13,8 @@ pub const MAX_PEERS: usize = 64;
 pub struct Settings {
     asn: u32,
     address: u32,
-    /// The first `count` are the peers; what stands behind them means nothing.
+    /// The first `count` are the peers; what stands behind them means nothing. A row with a count, since memory is fixed
+    /// and settings are copied.
     peers: [Peer; MAX_PEERS],
     count: u8,
     ghost few: { count ≤ 64 },
