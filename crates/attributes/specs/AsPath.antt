@@ -1,5 +1,5 @@
 -- The value of the attribute AS_PATH: segments, each a byte for its type, a byte with the count of its networks, and these in 4 bytes each. Assumes nothing.
-use Rattle.std.specs.Prelude.{ℕ, ◌+◌, ◌*◌, Bool, cond, not, ◌&&◌, List, [], ◌∷◌, ◌++◌, length, drop, ◌==◌, nat_le, nat_lt, slice_index}
+use Rattle.std.specs.Prelude.{ℕ, ◌+◌, ◌*◌, Bool, cond, not, ◌&&◌, List, length, drop, ◌==◌, nat_le, nat_lt, slice_index}
 use Rattle.std.specs.List.{flat_map}
 use Rattle.wire.specs.Bytes.{numbers}
 use Rattle.wire.specs.Pieces.{pieces, overruns, some}

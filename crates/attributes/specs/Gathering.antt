@@ -1,5 +1,5 @@
 -- Reading a path segment by segment. Assumes nothing.
-use Rattle.std.specs.Prelude.{ℕ, ◌+◌, cond, ◌&&◌, List, [], ◌∷◌, ◌++◌, length, Some, None, Option, ◌==◌, nat_le, nat_lt, slice_index}
+use Rattle.std.specs.Prelude.{ℕ, ◌+◌, cond, ◌&&◌, List, ◌++◌, length, Some, None, Option, ◌==◌, nat_le, nat_lt, slice_index}
 use Rattle.attributes.specs.AsPath.{Reading, got, fault, segment_size, asns_in, is_sequence}
 use Rattle.std.specs.List.{fold}
 use Rattle.wire.specs.Bytes.{numbers}

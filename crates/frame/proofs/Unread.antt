@@ -1,5 +1,5 @@
 -- What is made of bytes that begin with no frame with all its bytes. Assumes nothing.
-use Rattle.std.proofs.Common.{◌≡◌, ℕ, List, Some, None, ap, arith}
+use Rattle.std.proofs.Common.{◌≡◌, ℕ, List, Some, ap, arith}
 use Rattle.frame.specs.Frame.{Outcome, unread, outcome}
 use Rattle.frame.specs.Size.{Begins, framed, too_long, partial, unknown}
 use Rattle.frame.specs.Unread.{unread_by}

@@ -1,5 +1,5 @@
 -- The header of a message: 16 bytes of 255, the length of the whole message in 2 bytes, and its kind. Assumes nothing.
-use Rattle.std.specs.Prelude.{ℕ, Bool, true, false, cond, ◌&&◌, List, [], ◌∷◌, length, take, drop, Some, None, Option, ◌==◌, nat_le, slice_index}
+use Rattle.std.specs.Prelude.{ℕ, Bool, false, cond, ◌&&◌, List, length, take, drop, Some, None, Option, ◌==◌, nat_le, slice_index}
 use Rattle.wire.specs.declared.kinds.Kind.{Kind}
 use Rattle.wire.specs.declared.kinds.Kind.TheVariants.{Open, Update, Notification, Keepalive}
 use Rattle.wire.specs.Bytes.{u16_of}

@@ -10,7 +10,11 @@ pub fn read_header(message: &[u8]) -> Option<Kind>
     ensures { result ≡ kind_of message.now }
 {
     let kind = Kind::try_from(byte_at(message, 18)).ok()?;
-    if is_framed(message, kind) { Some(kind) } else { None }
+    if is_framed(message, kind) {
+        Some(kind)
+    } else {
+        None
+    }
 }
 
 /// Whether the marker and the length of a message of this kind are right.

@@ -28,9 +28,7 @@ fn read_body(state: State, peer: Peer, message: &[u8], kind: Kind) -> Result<Mes
     match (kind, state) {
         (Kind::Open, State::OpenSent) => Ok(Message::Open(read_open(message, peer)?)),
         (Kind::Open, State::Established) => Err(Fault::Open),
-        (Kind::Update, State::Established) => {
-            Ok(Message::Update(read_update(message, peer)?))
-        }
+        (Kind::Update, State::Established) => { Ok(Message::Update(read_update(message, peer)?)) }
         (Kind::Keepalive, State::Established) => Ok(Message::Keepalive),
         (Kind::Update | Kind::Keepalive, State::OpenSent) => Err(Fault::NotEstablished),
         (Kind::Notification, _) => Ok(Message::Notification(

@@ -1,5 +1,5 @@
 -- Reading attributes one by one. Assumes nothing.
-use Rattle.std.specs.Prelude.{ℕ, Bool, true, false, cond, ◌||◌, List, [], ◌∷◌, Some, None, Option, ◌==◌, nat_lt, slice_index_or}
+use Rattle.std.specs.Prelude.{ℕ, Bool, true, false, cond, ◌||◌, List, [], Some, None, Option, ◌==◌, nat_lt, slice_index_or}
 use Rattle.attributes.specs.AsPath.{Reading, got, fault}
 use Rattle.attributes.specs.Layout.{attribute_size, type_of}
 use Rattle.attributes.specs.Meaning.{Peer, Value, Path, NextHop, Med, Communities, Unused, read_attribute, lower, no_fault}

@@ -1,4 +1,4 @@
-use Rattle.std.proofs.Common.{sym, ◌∙◌, rules, arith}
+use Rattle.std.proofs.Common.{sym, ◌∙◌, rules}
 use Rattle.message.proofs.Offers.{end, over, wrong, more}
 use Rattle.message.proofs.opens.offers.Goals as goal
 

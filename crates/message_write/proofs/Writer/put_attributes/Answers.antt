@@ -1,4 +1,4 @@
-use Rattle.std.proofs.Common.{sym, ap, ◌∙◌}
+use Rattle.std.proofs.Common.{sym, ap}
 use Rattle.message_write.proofs.Puts.{join_five, put_same}
 use Rattle.message_write.proofs.Sizes.{attributes_parts}
 use Rattle.message_write.proofs.Writer.put_attributes.Goals as goal
