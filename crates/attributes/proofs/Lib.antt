@@ -1,3 +1,2 @@
 pub mod Numerals
 pub mod Segments
-pub mod Forms

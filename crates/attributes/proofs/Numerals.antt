@@ -1,7 +1,8 @@
 -- Numbers of 4 bytes in a row of bytes. Assumes nothing.
-use Rattle.std.proofs.Common.{◌≡◌, ℕ, ◌+◌, ◌/◌, ◌<◌, ◌≤◌, List, [], ◌∷◌, ◌++◌, length, take, drop, set, sym, refl, ap, ◌∙◌, arith, length-drop}
-use Rattle.std.proofs.lemmas.List.{append-nil, append_assoc, take_more_set}
-use Rattle.attributes.specs.Steps.{NumberSteps}
+use Rattle.std.proofs.Common.{◌≡◌, ℕ, ◌+◌, ◌/◌, ◌<◌, ◌≤◌, List, [], ◌∷◌, ◌++◌, length, take, drop, Some, None, refl, arith, length-append, length-drop}
+use Rattle.std.proofs.lemmas.List.{append-nil, append_assoc}
+use Rattle.std.proofs.lemmas.Bool.Decides.{nat_tests}
+use Rattle.attributes.specs.Gathering.{with_numbers}
 use Rattle.wire.specs.Bytes.{numbers, u32_of}
 
 pub numbers_end : (bs : List ℕ) → length bs < 4 → numbers bs ≡ []
@@ -12,13 +13,14 @@ numbers_end (a ∷ b ∷ []) h = refl
 numbers_end (a ∷ b ∷ c ∷ []) h = refl
 numbers_end (a ∷ b ∷ c ∷ d ∷ bs) h = absurd (omega arith)
 
-pub numbers_more : (bs : List ℕ) → 4 ≤ length bs → numbers bs ≡ u32_of bs ∷ numbers (drop 4 bs)
+-- the first number stands in the first 4 bytes
+number_first : (bs : List ℕ) → 4 ≤ length bs → numbers bs ≡ u32_of (take 4 bs) ∷ numbers (drop 4 bs)
 unfolding numbers
-numbers_more [] h = absurd (omega arith)
-numbers_more (a ∷ []) h = absurd (omega arith)
-numbers_more (a ∷ b ∷ []) h = absurd (omega arith)
-numbers_more (a ∷ b ∷ c ∷ []) h = absurd (omega arith)
-numbers_more (a ∷ b ∷ c ∷ d ∷ bs) h = refl
+number_first [] h = absurd (omega arith)
+number_first (a ∷ []) h = absurd (omega arith)
+number_first (a ∷ b ∷ []) h = absurd (omega arith)
+number_first (a ∷ b ∷ c ∷ []) h = absurd (omega arith)
+number_first (a ∷ b ∷ c ∷ d ∷ bs) h = refl
 
 pub count : (bs : List ℕ) → length (numbers bs) ≡ length bs / 4
 unfolding numbers
@@ -28,14 +30,29 @@ count (a ∷ b ∷ []) = refl
 count (a ∷ b ∷ c ∷ []) = refl
 count (a ∷ b ∷ c ∷ d ∷ bs) = let more = count bs in omega arith
 
-written : (xs bs : List ℕ) (k : ℕ) → k < length xs → 4 ≤ length bs → take (k + 1) (set xs k (u32_of bs)) ++ numbers (drop 4 bs) ≡ take k xs ++ numbers bs
-written xs bs k h l = ap (λ f. f ++ numbers (drop 4 bs)) (take_more_set xs k (u32_of bs) h) ∙ append_assoc (take k xs) (u32_of bs ∷ []) (numbers (drop 4 bs)) ∙ ap (λ n. take k xs ++ n) (sym (numbers_more bs l))
+module _ (room : ℕ) (ns bs : List ℕ) where
+  pub with_none : length bs < 4 → length ns ≤ room → with_numbers room ns bs ≡ Some ns
+  unfolding with_numbers
+  with_none h l =
+      let none = numbers_end bs h in
+      let whole = append-nil ns in
+      let z : length (numbers bs) ≡ 0 = omega (arith, count bs) in
+      grind (arith, nat_tests)
 
-pub number_steps : NumberSteps
-number_steps = record {
-  end = λ xs bs h. ap (λ n. xs ++ n) (numbers_end bs h) ∙ append-nil xs;
-  more = numbers_more;
-  written = written;
-  count = count;
-  shorter = λ bs n. length-drop n bs;
-}
+  pub with_more : 4 ≤ length bs → with_numbers room (ns ++ u32_of (take 4 bs) ∷ []) (drop 4 bs) ≡ with_numbers room ns bs
+  unfolding with_numbers
+  with_more h =
+      let first = number_first bs h in
+      let longer = length-append ns (u32_of (take 4 bs) ∷ []) in
+      let joined = append_assoc ns (u32_of (take 4 bs) ∷ []) (numbers (drop 4 bs)) in
+      grind (arith, nat_tests)
+
+  pub with_full : 4 ≤ length bs → length ns ≡ room → with_numbers room ns bs ≡ None
+  unfolding with_numbers
+  with_full h l =
+      let c = count bs in
+      let z : room < length ns + length (numbers bs) = omega arith in
+      grind (arith, nat_tests)
+
+-- the numbers of a row of bytes one by one
+pub ruleset numbering = (with_none, with_more, with_full, length-drop)

@@ -1,8 +1,7 @@
 -- Gathering a path segment by segment gives the path. Assumes nothing.
 use Rattle.std.proofs.Common.{◌≡◌, ℕ, ◌+◌, ◌/◌, ◌<◌, ◌≤◌, Bool, true, false, cond, not, ◌&&◌, eqb, ltb, leb, List, [], ◌∷◌, ◌++◌, length, get_or, take, drop, Some, None, Option, sym, refl, ap, ◌∙◌, arith, length-append, length-drop}
 use Rattle.attributes.specs.AsPath.{got, fault, segment_size, asns_in, is_sequence, asns_of_all, path_in, are_sequences, read_path}
-use Rattle.attributes.specs.Gathering.{with_segment, gathered, or_invalid, read_segments}
-use Rattle.attributes.specs.Steps.{SegmentSteps, WithSteps, PathSteps}
+use Rattle.attributes.specs.Gathering.{with_numbers, with_segment, gathered, or_invalid, read_segments}
 use Rattle.attributes.proofs.Numerals.{count}
 use Rattle.std.proofs.lemmas.List.{nil_from_length, length-take-le, append_assoc, append-nil}
 use Rattle.std.proofs.lemmas.Bool.{cond-true, cond-false}
@@ -16,50 +15,45 @@ segment_pieces : PieceSteps segment_size
 segment_pieces = piece_steps segment_size (λ b bs. omega arith)
 
 module _ (room : ℕ) (asns : Option (List ℕ)) (bs : List ℕ) where
-  end : length bs ≡ 0 → read_segments room asns bs ≡ or_invalid asns
+  pub end : length bs ≡ 0 → read_segments room asns bs ≡ or_invalid asns
   unfolding read_segments gathered
   end h =
       let e = nil_from_length bs h in
       cond-false _ _ _ (ap (overruns segment_size) e ∙ segment_pieces.fits_none) ∙ ap (λ ps. or_invalid (gathered room asns ps)) (ap (pieces segment_size) e ∙ segment_pieces.none)
 
-  over : 0 < length bs → length bs < segment_size bs → read_segments room asns bs ≡ fault 5
+  pub over : 0 < length bs → length bs < segment_size bs → read_segments room asns bs ≡ fault 5
   unfolding read_segments
   over h l = cond-true _ _ _ (segment_pieces.over bs h l)
 
-  more : 0 < length bs → segment_size bs ≤ length bs → read_segments room (with_segment room asns (take (segment_size bs) bs)) (drop (segment_size bs) bs) ≡ read_segments room asns bs
+  pub more : 0 < length bs → segment_size bs ≤ length bs → read_segments room (with_segment room asns (take (segment_size bs) bs)) (drop (segment_size bs) bs) ≡ read_segments room asns bs
   unfolding read_segments gathered
   more h l = sym (ap (λ o. cond o (fault 5) (or_invalid (gathered room asns (pieces segment_size bs)))) (segment_pieces.next bs h l) ∙ ap (λ ps. cond (overruns segment_size (drop (segment_size bs) bs)) (fault 5) (or_invalid (gathered room asns ps))) (segment_pieces.first bs h))
 
-pub segment_steps : SegmentSteps
-segment_steps = record { end = end; over = over; more = more; shorter = λ bs n. length-drop n bs }
+-- gathering a path segment by segment
+pub ruleset gathering = (end, over, more, length-drop)
 
 module _ (room : ℕ) (asns s : List ℕ) where
-  other : (get_or s 0 0 ≡ 2 → ⊥) → with_segment room (Some asns) s ≡ None
+  pub other : (get_or s 0 0 ≡ 2 → ⊥) → with_segment room (Some asns) s ≡ None
   unfolding with_segment
   other h = grind (arith, nat_tests)
 
-  empty : length (drop 2 s) < 4 → with_segment room (Some asns) s ≡ None
+  pub empty : length (drop 2 s) < 4 → with_segment room (Some asns) s ≡ None
   unfolding with_segment
   empty h = let c = count (drop 2 s) in let z : length (numbers (drop 2 s)) ≡ 0 = omega arith in grind (arith, nat_tests)
 
-  long : room < length asns + length (drop 2 s) / 4 → with_segment room (Some asns) s ≡ None
-  unfolding with_segment
-  long h = let c = count (drop 2 s) in let z : room < length asns + length (numbers (drop 2 s)) = omega arith in grind (arith, nat_tests)
-
-  fits : get_or s 0 0 ≡ 2 → 4 ≤ length (drop 2 s) → length asns + length (drop 2 s) / 4 ≤ room → with_segment room (Some asns) s ≡ Some (asns ++ asns_in s)
-  unfolding with_segment
-  fits e h l =
+  pub sequence : get_or s 0 0 ≡ 2 → 4 ≤ length (drop 2 s) → with_segment room (Some asns) s ≡ with_numbers room asns (drop 2 s)
+  unfolding with_segment with_numbers
+  sequence e h =
       let c = count (drop 2 s) in
-      let z : length asns + length (numbers (drop 2 s)) ≤ room = omega arith in
       let y : 0 < length (numbers (drop 2 s)) = omega arith in
       grind (arith, nat_tests)
 
-with_none : (room : ℕ) (s : List ℕ) → with_segment room None s ≡ None
+pub with_none : (room : ℕ) (s : List ℕ) → with_segment room None s ≡ None
 unfolding with_segment
 with_none room s = refl
 
-pub with_steps : WithSteps
-with_steps = record { none = with_none; other = other; empty = empty; long = long; fits = fits; count = count; front = λ n xs h. length-take-le n xs h }
+-- one more segment
+pub ruleset one_more = (with_none, other, empty, sequence)
 
 -- once something is no path, the rest does not matter
 gathered_none : (room : ℕ) (ss : List (List ℕ)) → gathered room None ss ≡ None
@@ -104,7 +98,7 @@ module _ (asn : ℕ) (asns value : List ℕ) (e : read_segments 32 (Some []) val
   gathered_path : (overruns segment_size value ≡ false) × (are_sequences value ≡ true) × (leb (length (path_in value)) 32 ≡ true) × (path_in value ≡ asns)
   gathered_path = taken_apart (overruns segment_size value) (are_sequences value) (leb (length (path_in value)) 32) (path_in value) asns (sym (whole value) ∙ e)
 
-  read_from : read_path asn value ≡ cond (ltb 0 (length asns) && eqb (get_or asns 0 0) asn) (got asns) (fault 6)
+  pub read_from : read_path asn value ≡ cond (ltb 0 (length asns) && eqb (get_or asns 0 0) asn) (got asns) (fault 6)
   unfolding read_path
   read_from =
       let g = gathered_path in
@@ -113,9 +107,8 @@ module _ (asn : ℕ) (asns value : List ℕ) (e : read_segments 32 (Some []) val
       let l = g.2 in
       joined_path (overruns segment_size value) (are_sequences value) (path_in value) asns asn o s l g.3
 
-pub path_steps : PathSteps
-path_steps = record {
-  failed = λ asn k value e. sym (failed asn k value (sym e));
-  read = read_from;
-  front = λ n xs h. length-take-le n xs h;
-}
+pub from_failed : (asn k : ℕ) (value : List ℕ) → fault k ≡ read_segments 32 (Some []) value → fault k ≡ read_path asn value
+from_failed asn k value e = sym (failed asn k value (sym e))
+
+-- what was gathered is a path of the peer's, or not
+pub ruleset paths = (from_failed, read_from)

@@ -1,5 +1,6 @@
 -- The value of the attribute AS_PATH: segments, each a byte for its type, a byte with the count of its networks, and these in 4 bytes each. Assumes nothing.
-use Rattle.std.specs.Prelude.{ℕ, ◌+◌, ◌*◌, Bool, cond, not, ◌&&◌, List, [], ◌∷◌, ◌++◌, length, drop, ◌==◌, nat_le, nat_lt, slice_index}
+use Rattle.std.specs.Prelude.{ℕ, ◌+◌, ◌*◌, Bool, cond, not, ◌&&◌, List, length, drop, ◌==◌, nat_le, nat_lt, slice_index}
+use Rattle.std.specs.List.{flat_map}
 use Rattle.wire.specs.Bytes.{numbers}
 use Rattle.wire.specs.Pieces.{pieces, overruns, some}
 
@@ -22,8 +23,7 @@ is_sequence segment = slice_index segment 0 == 2 && nat_lt 0 (length (asns_in se
 
 -- the networks of all segments
 unfoldable pub asns_of_all : List (List ℕ) → List ℕ
-asns_of_all [] = []
-asns_of_all (s ∷ ss) = asns_in s ++ asns_of_all ss
+asns_of_all ss = flat_map asns_in ss
 
 -- the path that a value holds: several sequences are one path
 abbrev pub path_in : List ℕ → List ℕ

@@ -1,7 +1,13 @@
 -- Reading a path segment by segment. Assumes nothing.
-use Rattle.std.specs.Prelude.{ℕ, ◌+◌, cond, ◌&&◌, List, [], ◌∷◌, ◌++◌, length, Some, None, Option, ◌==◌, nat_le, nat_lt, slice_index}
+use Rattle.std.specs.Prelude.{ℕ, ◌+◌, cond, ◌&&◌, List, ◌++◌, length, Some, None, Option, ◌==◌, nat_le, nat_lt, slice_index}
 use Rattle.attributes.specs.AsPath.{Reading, got, fault, segment_size, asns_in, is_sequence}
+use Rattle.std.specs.List.{fold}
+use Rattle.wire.specs.Bytes.{numbers}
 use Rattle.wire.specs.Pieces.{pieces, overruns}
+
+-- the numbers so far with those of the bytes, if there is room for them
+unfoldable pub with_numbers : ℕ → List ℕ → List ℕ → Option (List ℕ)
+with_numbers room ns bs = cond (nat_le (length ns + length (numbers bs)) room) (Some (ns ++ numbers bs)) None
 
 -- the networks so far with those of one more segment, if it is a sequence and there is room for them
 unfoldable pub with_segment : ℕ → Option (List ℕ) → List ℕ → Option (List ℕ)
@@ -9,8 +15,7 @@ with_segment room None s = None
 with_segment room (Some asns) s = cond (is_sequence s && nat_le (length asns + length (asns_in s)) room) (Some (asns ++ asns_in s)) None
 
 unfoldable pub gathered : ℕ → Option (List ℕ) → List (List ℕ) → Option (List ℕ)
-gathered room asns [] = asns
-gathered room asns (s ∷ ss) = gathered room (with_segment room asns s) ss
+gathered room asns ss = fold (with_segment room) asns ss
 
 abbrev pub or_invalid : Option (List ℕ) → Reading (List ℕ)
 or_invalid None = fault 6

@@ -3,4 +3,3 @@ pub mod AsPath
 pub mod Gathering
 pub mod Meaning
 pub mod Meant
-pub mod Steps

@@ -1,8 +1,9 @@
 -- What the code's values stand for. Assumes nothing.
-use Rattle.std.specs.Prelude.{ℕ, List, take, Some, None, Ok, Err, Option, Result}
+use Rattle.std.specs.Prelude.{ℕ, List, Ok, Err, Result}
+use Rattle.arrayvec.specs.ArrayVec.{ArrayVec}
 use Rattle.attributes.specs.AsPath.{Reading, got, fault}
 use Rattle.attributes.specs.Meaning.{Peer, Value, Path, NextHop, Med, Communities, Unused}
-use Rattle.attributes.specs.declared.Peer.{Peer as StoredPeer}
+use Rattle.peers.specs.declared.peer.Peer.{Peer as StoredPeer}
 use Rattle.attributes.specs.declared.Value.{Value as StoredValue}
 use Rattle.attributes.specs.declared.Value.TheVariants as a_value
 use Rattle.fault.specs.Fault.{code}
@@ -14,10 +15,9 @@ abbrev pub reading_of : {A B : Type 0} → (A → B) → Result A Fault → Read
 reading_of f (Ok x) = got (f x)
 reading_of f (Err e) = fault (code e)
 
--- so many at the front of a row, if any
-abbrev pub front_of : List ℕ → Option ℕ → Option (List ℕ)
-front_of row None = None
-front_of row (Some n) = Some (take n row)
+-- the numbers in a row with room for more
+abbrev pub numbers_of : ArrayVec ℕ → List ℕ
+numbers_of row = row.items
 
 abbrev pub peer_of : StoredPeer → Peer
 peer_of p = record { asn = p.asn; address = p.address }

@@ -1,12 +1,12 @@
 //! The value of the attribute AS_PATH.
-ghost use Rattle.std.specs.Prelude.{◌≡◌, ◌≤◌, [], length, take, IfSome, IfOk, Some};
+ghost use Rattle.std.specs.Prelude.{◌≡◌, ◌≤◌, [], length, option_map, IfSome, IfOk, Some};
 ghost use Rattle.attributes.specs.AsPath.{read_path, segment_size};
 ghost use Rattle.attributes.specs.Gathering.{read_segments, starting_with, with_segment};
-ghost use Rattle.attributes.specs.Meant.{front_of, reading_of};
-ghost use Rattle.attributes.specs.Steps.{PathSteps, SegmentSteps, WithSteps};
+ghost use Rattle.attributes.specs.Meant.{numbers_of, reading_of};
 ghost use Rattle.route.specs.Meant.{asns_of};
 
-use crate::numbers::push_numbers;
+use crate::numbers::with_numbers;
+use arrayvec::ArrayVec;
 use fault::Fault;
 use route::Path;
 use wire::{byte_at, cut, skip};
@@ -14,44 +14,42 @@ use wire::{byte_at, cut, skip};
 /// The type of a segment whose networks stand in order.
 const SEQUENCE: u8 = 2;
 
+/// The networks of a path, as far as it is read.
+type Networks = ArrayVec<u32, 32>;
+
 /// The path that the value holds: of the peer's, so that it begins with its network.
+#[tactic(auto, using(crate::proofs::Segments::paths))]
 pub fn read_path(value: &[u8], asn: u32) -> Result<Path, Fault>
     ensures { reading_of asns_of result ≡ read_path asn value.now }
 {
-    let _ = path_law();
-    let mut asns = [0; 32];
-    match read_segments(value, &mut asns) {
-        Ok(count) => path_of(&asns[0..count], asn),
-        Err(fault) => Err(fault),
-    }
+    let asns = read_segments(value)?;
+    path_of(asns.as_slice(), asn)
 }
 
 /// The path of these networks, if there are 1 to 32 and it begins with the peer's.
 fn path_of(asns: &[u32], asn: u32) -> Result<Path, Fault>
     ensures { length asns.now ≤ 32 → reading_of asns_of result ≡ starting_with asn asns.now }
 {
-    if asns.is_empty() || asns[0] != asn {
+    if asns.first() != Some(&asn) {
         return Err(Fault::Value);
     }
     Path::new(asns).ok_or(Fault::Value)
 }
 
-/// Writes the networks of all segments into the row, and says how many there are.
-fn read_segments(value: &[u8], asns: &mut [u32]) -> Result<usize, Fault>
-    ensures within { IfOk result (λ n. n ≤ length asns.new) }
-    ensures asns { reading_of (λ n. take n asns.new) result ≡ read_segments (length asns.old) (Some []) value.now }
+/// The networks of all segments.
+#[tactic(auto, using(crate::proofs::Segments::gathering))]
+fn read_segments(value: &[u8]) -> Result<Networks, Fault>
+    ensures within { IfOk result (λ r. length (numbers_of r) ≤ 32) }
+    ensures asns { reading_of numbers_of result ≡ read_segments 32 (Some []) value.now }
 {
-    let _ = segment_law();
-    let mut count = Some(0);
+    let mut asns = Some(Networks::new());
     let mut rest = value;
     while !rest.is_empty() {
-        let Some((segment, after)) = cut(rest, segment_size(rest)) else {
-            return Err(Fault::Attribute);
-        };
-        count = add_segment(segment, asns, count);
+        let (segment, after) = cut(rest, segment_size(rest)).ok_or(Fault::Attribute)?;
+        asns = with_segment(asns, segment);
         rest = after;
     }
-    count.ok_or(Fault::Value)
+    asns.ok_or(Fault::Value)
 }
 
 /// How many bytes the first segment takes.
@@ -61,40 +59,17 @@ fn segment_size(segments: &[u8]) -> usize
     2 + 4 * usize::from(byte_at(segments, 1))
 }
 
-/// Writes the networks of a segment behind the first `count` of the row; none is left of a path that has a wrong segment or is too long.
-fn add_segment(segment: &[u8], asns: &mut [u32], count: Option<usize>) -> Option<usize>
-    requires { IfSome count (λ n. n ≤ length asns.old) }
-    ensures within { IfSome result (λ n. n ≤ length asns.new) }
-    ensures asns { front_of asns.new result ≡ with_segment (length asns.old) (front_of asns.old count) segment.now }
+/// The networks with those of a segment behind them; none is left of a path that has a wrong segment or is too long.
+#[tactic(auto, using(crate::proofs::Segments::one_more))]
+fn with_segment(asns: Option<Networks>, segment: &[u8]) -> Option<Networks>
+    requires { IfSome asns (λ r. length (numbers_of r) ≤ 32) }
+    ensures within { IfSome result (λ r. length (numbers_of r) ≤ 32) }
+    ensures asns { option_map numbers_of result ≡ with_segment 32 (option_map numbers_of asns) segment.now }
 {
-    let _ = with_law();
-    let Some(count) = count else {
-        return None;
-    };
+    let asns = asns?;
     let networks = skip(segment, 2);
     if byte_at(segment, 0) != SEQUENCE || networks.len() < 4 {
         return None;
     }
-    if networks.len() / 4 > asns.len() - count {
-        return None;
-    }
-    Some(push_numbers(networks, asns, count))
-}
-
-fn path_law() -> bool
-    ensures { PathSteps }
-{
-    true
-}
-
-fn segment_law() -> bool
-    ensures { SegmentSteps }
-{
-    true
-}
-
-fn with_law() -> bool
-    ensures { WithSteps }
-{
-    true
+    with_numbers(asns, networks)
 }

@@ -3,19 +3,13 @@ ghost use Rattle.std.specs.Prelude.{◌≡◌};
 ghost use Rattle.attributes.specs.Layout.{attribute_size, has_flags, has_form, has_length, is_extended, kind_of, type_of, value_of};
 
 use crate::Kind;
+use wire::flags::{EXTENDED_LENGTH, OPTIONAL, TRANSITIVE};
 use wire::{byte_at, skip, u16_of};
 
-/// Flags of attributes, as bits.
-const OPTIONAL: u8 = 0x80;
+impl From<u8> for Kind {
+    ghost from_gives = { λ number kind. kind ≡ kind_of number };
 
-const TRANSITIVE: u8 = 0x40;
-
-const EXTENDED_LENGTH: u8 = 0x10;
-
-impl Kind {
-    pub fn of(number: u8) -> Kind
-        ensures { result ≡ kind_of number }
-    {
+    fn from(number: u8) -> Kind {
         match number {
             1 => Kind::Origin,
             2 => Kind::AsPath,
@@ -26,7 +20,9 @@ impl Kind {
             _ => Kind::Other,
         }
     }
+}
 
+impl Kind {
     /// Whether these are the flags of the attribute: only optional and transitive are looked at.
     fn has_flags(self, flags: u8) -> bool
         ensures { result ≡ has_flags self flags }
@@ -57,7 +53,7 @@ impl Kind {
 pub fn has_form(attribute: &[u8]) -> bool
     ensures { result ≡ has_form attribute.now }
 {
-    let kind = Kind::of(byte_at(attribute, 1));
+    let kind = Kind::from(byte_at(attribute, 1));
     kind.has_flags(byte_at(attribute, 0)) && kind.has_length(value_of(attribute).len())
 }
 

@@ -7,11 +7,12 @@ mod numbers;
 mod values;
 
 pub use kinds::attribute_size;
+pub use peers::Peer;
 use route::{Communities, Path};
 pub use values::read_attribute;
 
-/// The attributes that are known.
-#[derive(Clone, Copy)]
+/// The types of attributes. One that is not known is of a kind of its own: with any flags and any length.
+#[derive(Clone, Copy, Debug, PartialEq, Eq)]
 pub enum Kind {
     Origin,
     AsPath,
@@ -20,13 +21,6 @@ pub enum Kind {
     LocalPref,
     Communities,
     Other,
-}
-
-/// Who is at the other end of a session.
-#[derive(Clone, Copy)]
-pub struct Peer {
-    pub asn: u32,
-    pub address: u32,
 }
 
 /// What is used of an attribute.

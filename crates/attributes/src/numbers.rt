@@ -1,29 +1,25 @@
 //! Numbers of 4 bytes, read into a row.
-ghost use Rattle.std.specs.Prelude.{◌≡◌, ◌+◌, ◌≤◌, ◌++◌, length, take};
-ghost use Rattle.attributes.specs.Steps.{NumberSteps};
-ghost use Rattle.wire.specs.Bytes.{numbers};
+ghost use Rattle.std.specs.Prelude.{◌≡◌, ◌≤◌, length, option_map, IfSome};
+ghost use Rattle.attributes.specs.Gathering.{with_numbers};
+ghost use Rattle.attributes.specs.Meant.{numbers_of};
 
-use wire::{skip, u32_of};
+use arrayvec::ArrayVec;
+use wire::{cut, u32_of};
 
-/// Writes the numbers of the bytes behind the first `count` of the row, and says how many there are then.
-pub fn push_numbers(bytes: &[u8], row: &mut [u32], count: usize) -> usize
-    requires { count + length (numbers bytes.now) ≤ length row.old }
-    ensures count { result ≡ count + length (numbers bytes.now) }
-    ensures front { take result row.new ≡ take count row.old ++ numbers bytes.now }
+/// The row with the numbers of the bytes behind it, if there is room for all of them.
+#[tactic(auto, using(crate::proofs::Numerals::numbering))]
+pub fn with_numbers<const N: usize>(
+    mut row: ArrayVec<u32, N>,
+    bytes: &[u8],
+) -> Option<ArrayVec<u32, N>>
+    requires { length (numbers_of row) ≤ N }
+    ensures within { IfSome result (λ r. length (numbers_of r) ≤ N) }
+    ensures numbers { option_map numbers_of result ≡ with_numbers N (numbers_of row.entry) bytes.now }
 {
-    let _ = number_law();
     let mut rest = bytes;
-    let mut end = count;
-    while rest.len() >= 4 {
-        row[end] = u32_of(rest);
-        end += 1;
-        rest = skip(rest, 4);
+    while let Some((number, after)) = cut(rest, 4) {
+        row.try_push(u32_of(number)).ok()?;
+        rest = after;
     }
-    end
-}
-
-pub fn number_law() -> bool
-    ensures { NumberSteps }
-{
-    true
+    Some(row)
 }

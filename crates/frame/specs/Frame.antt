@@ -1,6 +1,6 @@
 -- What bytes begin with: a whole frame and what it says, one that is passed over, a part of one, or none that can be
 -- read. Assumes nothing.
-use Rattle.std.specs.Prelude.{ℕ, cond, List, length, drop, ◌==◌, nat_lt, slice_index}
+use Rattle.std.specs.Prelude.{ℕ, Ok, Err, Result, cond, List, length, drop, ◌==◌, nat_lt, slice_index}
 use Rattle.frame.specs.Settings.{Exchange, settings_at}
 use Rattle.frame.specs.Size.{Begins, framed, too_long, partial, unknown, begins}
 use Rattle.frame.specs.declared.kind.Kind.{Kind}
@@ -11,8 +11,9 @@ use Rattle.frame.specs.declared.event.Defect.{Defect}
 use Rattle.frame.specs.declared.event.Defect.TheVariants.{UnknownKind, UnknownPeer, UnknownState}
 use Rattle.frame.specs.declared.event.Event.{Event}
 use Rattle.frame.specs.declared.event.Event.TheVariants as event
-use Rattle.frame.specs.declared.event.Reading.{Reading}
-use Rattle.frame.specs.declared.event.Reading.TheVariants as reading
+use Rattle.frame.specs.declared.event.Unread.{Unread}
+use Rattle.frame.specs.declared.event.Unread.TheVariants as unread_as
+use Rattle.frame.specs.declared.event.Whole.{Whole}
 
 -- what a frame says to a server that has settings
 pub data Happening : Type 0 where
@@ -78,8 +79,11 @@ happening event.Tick = tick
 happening (event.PolicyText t) = policy_text t.now
 
 -- what a reading of the code says
-abbrev pub meant : {T X : Type 0} → (T → X) → Reading T → Outcome X
-meant f (reading.Whole t n) = whole (f t) n
-meant f (reading.Refused r n) = refused r n
-meant f reading.More = more
-meant f (reading.Unreadable d) = unreadable d
+abbrev pub unread : {X : Type 0} → Unread → Outcome X
+unread (unread_as.Refused r n) = refused r n
+unread unread_as.More = more
+unread (unread_as.Unreadable d) = unreadable d
+
+abbrev pub meant : {T X : Type 0} → (T → X) → Result (Whole T) Unread → Outcome X
+meant f (Ok w) = whole (f w.content) w.size
+meant f (Err u) = unread u

@@ -1,7 +1,7 @@
 -- What settings say, and where they stand in the bytes of a frame. Assumes nothing.
 use Rattle.std.specs.Prelude.{ℕ, zero, suc, ◌+◌, ◌*◌, cond, List, [], ◌∷◌, ◌++◌, length, take, Some, None, Option, nat_lt, slice_index, slice_index_or}
 use Rattle.frame.specs.Bytes.{number32}
-use Rattle.frame.specs.declared.settings.Peer.{Peer}
+use Rattle.peers.specs.declared.peer.Peer.{Peer}
 use Rattle.frame.specs.declared.settings.Settings.{Settings}
 
 -- what settings say: the server's own autonomous system and address, and its peers, numbered from 0

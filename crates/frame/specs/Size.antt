@@ -1,9 +1,7 @@
 -- The kinds of frames, and how many bytes a frame has. Assumes nothing.
-use Rattle.std.specs.Prelude.{◌≡◌, ℕ, ◌+◌, ◌*◌, cond, List, length, take, Some, None, Option, ◌==◌, nat_lt, slice_index}
+use Rattle.std.specs.Prelude.{ℕ, ◌+◌, ◌*◌, cond, List, length, take, Some, None, Option, ◌==◌, nat_lt, slice_index}
 use Rattle.frame.specs.Bytes.{number16, number32}
 use Rattle.frame.specs.declared.kind.Kind.{Kind}
-use Rattle.frame.specs.declared.kind.Beginning.{Beginning}
-use Rattle.frame.specs.declared.kind.Beginning.TheVariants as code
 use Rattle.frame.specs.declared.kind.Kind.TheVariants.{Message, Session, Tick, PolicyText, Settings}
 
 -- a frame's kind, by its first byte
@@ -54,17 +52,3 @@ by_kind bytes (Some k) = by_size bytes k (size_of k bytes)
 
 abbrev pub begins : List ℕ → Begins
 begins bytes = cond (nat_lt (length bytes) 1) partial (by_kind bytes (kind_of (slice_index bytes 0)))
-
--- what a beginning of the code's says
-abbrev pub beginning_of : Beginning → Begins
-beginning_of (code.Frame k f) = framed k f.now
-beginning_of (code.TooLong n) = too_long n
-beginning_of code.Partial = partial
-beginning_of code.Unknown = unknown
-
--- a frame's own first bytes say how many it has
-abbrev pub Sized : Beginning → Type 0
-Sized (code.Frame k f) = size_of k f.now ≡ Some (length f.now)
-Sized (code.TooLong n) = Unit {0}
-Sized code.Partial = Unit {0}
-Sized code.Unknown = Unit {0}

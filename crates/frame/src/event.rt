@@ -1,6 +1,7 @@
 //! What a frame says, and why one is passed over or cannot be read.
 ghost use Rattle.std.specs.Prelude.{◌≡◌};
 ghost use Rattle.frame.specs.Faults.{refusal_fault, defect_fault};
+ghost use Rattle.frame.specs.declared.event.Unread.TheVariants.{Unreadable};
 
 use fault::Fault;
 
@@ -45,17 +46,33 @@ pub enum Defect {
     Cut,
 }
 
-/// What the bytes at hand begin with.
-#[derive(Clone, Copy)]
-pub enum Reading<T> {
-    /// A whole frame of `size` bytes, and what it says.
-    Whole { content: T, size: usize },
+/// A whole frame of `size` bytes, and what it says.
+#[derive(Clone, Copy, Debug, PartialEq, Eq)]
+pub struct Whole<T> {
+    pub content: T,
+    pub size: usize,
+}
+
+/// What the bytes at hand begin with where no frame is taken.
+#[derive(Clone, Copy, Debug, PartialEq, Eq)]
+pub enum Unread {
     /// A frame of `size` bytes that is passed over. Not all of them need be at hand.
     Refused { refusal: Refusal, size: usize },
     /// A part of a frame: more bytes are needed.
     More,
     /// A frame that cannot be read.
     Unreadable { defect: Defect },
+}
+
+/// What the bytes at hand begin with.
+pub type Reading<T> = Result<Whole<T>, Unread>;
+
+impl From<Defect> for Unread {
+    ghost from_gives = { λ defect unread. unread ≡ Unreadable defect };
+
+    fn from(defect: Defect) -> Unread {
+        Unread::Unreadable { defect }
+    }
 }
 
 impl Refusal {

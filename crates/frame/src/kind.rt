@@ -1,11 +1,14 @@
 //! The kinds of frames, and how many bytes a frame has.
-ghost use Rattle.std.specs.Prelude.{◌≡◌};
-ghost use Rattle.frame.specs.Size.{Sized, beginning_of, begins, kind_of, size_of};
+ghost use Rattle.std.specs.Prelude.{◌≡◌, length, ok_or, MatchResult, Some};
+ghost use Rattle.frame.specs.Size.{begins, framed, kind_of, size_of};
+ghost use Rattle.frame.specs.Unread.{unread_by};
+ghost use Rattle.frame.specs.declared.event.Defect.TheVariants.{UnknownKind};
 
-use crate::bytes::{u16_at, u32_at};
+use crate::event::{Defect, Refusal, Unread};
+use wire::{first, skip, u16_of, u32_of};
 
 /// What a frame is, by its first byte.
-#[derive(Clone, Copy)]
+#[derive(Clone, Copy, Debug, PartialEq, Eq)]
 pub enum Kind {
     Message,
     Session,
@@ -14,68 +17,69 @@ pub enum Kind {
     Settings,
 }
 
-/// The kind of frame that begins with this byte.
-pub fn kind_of(byte: u8) -> Option<Kind>
-    ensures { result ≡ kind_of byte }
-{
-    match byte {
-        1 => Some(Kind::Message),
-        2 => Some(Kind::Session),
-        3 => Some(Kind::Tick),
-        4 => Some(Kind::PolicyText),
-        5 => Some(Kind::Settings),
-        _ => None,
+impl TryFrom<u8> for Kind {
+    type Error = Defect;
+
+    ghost try_from_gives = { λ byte result. result ≡ ok_or (kind_of byte) UnknownKind };
+
+    fn try_from(byte: u8) -> Result<Kind, Defect> {
+        match byte {
+            1 => Ok(Kind::Message),
+            2 => Ok(Kind::Session),
+            3 => Ok(Kind::Tick),
+            4 => Ok(Kind::PolicyText),
+            5 => Ok(Kind::Settings),
+            _ => Err(Defect::UnknownKind),
+        }
     }
 }
 
-/// How many bytes a frame of this kind has, as soon as its first bytes tell.
-pub fn size_of(kind: Kind, bytes: &[u8]) -> Option<usize>
-    ensures { result ≡ size_of kind bytes.now }
-{
-    match kind {
-        Kind::Message if bytes.len() >= 4 => Some(4 + u16_at(bytes, 2) as usize),
-        Kind::Session => Some(3),
-        Kind::Tick => Some(1),
-        Kind::PolicyText if bytes.len() >= 5 => Some(5 + u32_at(bytes, 1) as usize),
-        Kind::Settings if bytes.len() >= 2 => Some(10 + 8 * bytes[1] as usize),
-        Kind::Message | Kind::PolicyText | Kind::Settings => None,
+impl Kind {
+    /// How many bytes a frame of this kind has, as soon as its first bytes tell.
+    #[tactic(auto, using(crate::proofs::Numbers::numbers_behind))]
+    pub fn size_of(self, bytes: &[u8]) -> Option<usize>
+        ensures { result ≡ size_of self bytes.now }
+    {
+        match self {
+            Kind::Message if bytes.len() >= 4 => Some(4 + usize::from(u16_of(skip(bytes, 2)))),
+            Kind::Session => Some(3),
+            Kind::Tick => Some(1),
+            Kind::PolicyText if bytes.len() >= 5 => Some(5 + u32_of(skip(bytes, 1)) as usize),
+            Kind::Settings if bytes.len() >= 2 => Some(10 + 8 * usize::from(bytes[1])),
+            Kind::Message | Kind::PolicyText | Kind::Settings => None,
+        }
     }
 }
 
 /// The longest frame that is read: a policy text of 65,536 bytes, and the 5 in front of it.
 pub const LARGEST_FRAME: usize = 5 + 65_536;
 
-/// What the bytes at hand begin with.
+/// A frame with all its bytes, which are as many as its first ones say.
 #[derive(Clone, Copy)]
-pub enum Beginning<'a> {
-    /// A frame of this kind, with all its bytes.
-    Frame { kind: Kind, frame: &'a [u8] },
-    /// A frame of `size` bytes, which is more than are read. Not all of them need be at hand.
-    TooLong { size: usize },
-    /// A part of a frame.
-    Partial,
-    /// No frame.
-    Unknown,
+pub struct Frame<'a> {
+    pub kind: Kind,
+    pub bytes: &'a [u8],
+    ghost whole: { size_of kind bytes.now ≡ Some (length bytes.now) },
 }
 
-/// Cuts off the first frame.
-pub fn first_frame(bytes: &[u8]) -> Beginning<'_>
-    ensures value { beginning_of result ≡ begins bytes.now }
-    ensures sized { Sized result }
+/// Cuts off the first frame; one that is too long is refused for that.
+pub fn first_frame(bytes: &[u8], too_long: Refusal) -> Result<Frame<'_>, Unread>
+    ensures { MatchResult result (λ f. begins bytes.now ≡ framed f.kind f.bytes.now) (λ u. unread_by too_long (begins bytes.now) ≡ Some u) }
 {
-    if bytes.is_empty() {
-        return Beginning::Partial;
+    let byte = bytes.first().ok_or(Unread::More)?;
+    let kind = Kind::try_from(*byte)?;
+    let size = kind.size_of(bytes).ok_or(Unread::More)?;
+    if size > LARGEST_FRAME {
+        return Err(Unread::Refused {
+            refusal: too_long,
+            size,
+        });
     }
-    let Some(kind) = kind_of(bytes[0]) else {
-        return Beginning::Unknown;
-    };
-    match size_of(kind, bytes) {
-        None => Beginning::Partial,
-        Some(size) if size > LARGEST_FRAME => Beginning::TooLong { size },
-        Some(size) if bytes.len() < size => Beginning::Partial,
-        Some(size) => Beginning::Frame {
-            kind,
-            frame: &bytes[0..size],
-        },
+    if bytes.len() < size {
+        return Err(Unread::More);
     }
+    Ok(Frame {
+        kind,
+        bytes: first(bytes, size),
+    })
 }

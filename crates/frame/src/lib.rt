@@ -1,7 +1,6 @@
 //! Events of a route server in bytes: framed, one after the other, high byte first.
 #![tactic(auto)]
 
-mod bytes;
 pub mod event;
 mod kind;
 pub mod reading;

@@ -1,4 +1,3 @@
-pub mod Steps
 pub mod Readings
 pub mod Course
 pub mod Windows

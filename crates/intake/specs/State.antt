@@ -40,6 +40,13 @@ force_after s (event h) = s
 force_after s (passed_over r) = s
 force_after s (ended d) = s
 
+-- the settings in force after what bytes begin with
+abbrev pub settled : Option Exchange → Outcome Entry → Option Exchange
+settled s (whole e n) = force_after s e
+settled s (refused r n) = s
+settled s more = s
+settled s (unreadable d) = s
+
 -- how far an input is read: the settings in force, and the frame that is being passed over
 pub record State : Type 0 where
   pub settings : Option Exchange

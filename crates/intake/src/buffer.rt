@@ -6,7 +6,7 @@ pub mod filling;
 /// Room for the longest frame, and as much again, so that bytes are seldom moved.
 pub const CAPACITY: usize = 131_072;
 
-/// The bytes from place `start` to place `end` are at hand.
+/// The bytes from place `start` to place `end` are at hand. Places, since memory is fixed: bytes come behind and go in front.
 #[derive(Drop)]
 pub struct Buffer {
     bytes: [u8; CAPACITY],

@@ -1,12 +1,12 @@
 //! What is next in an input, and how far it is read.
-ghost use Rattle.std.specs.Prelude.{◌≡◌, Some, None};
+ghost use Rattle.std.specs.Prelude.{◌≡◌, Some};
 ghost use Rattle.std.specs.Option.{option_map};
-ghost use Rattle.frame.specs.Frame.{meant, happening};
+ghost use Rattle.frame.specs.Frame.{meant};
 ghost use Rattle.frame.specs.Settings.{exchange};
 ghost use Rattle.intake.specs.Course.{Continues, ahead_of};
-ghost use Rattle.intake.specs.State.{state_of, turn_of, turn, start, settings_of, pass_over, by_outcome, map_outcome, in_force, event, at_end};
+ghost use Rattle.intake.specs.State.{state_of, turn_of, turn, start, settings_of, settled, entry_of, pass_over, map_outcome, reads, at_end};
 
-use frame::event::{Defect, Event, Reading, Refusal};
+use frame::event::{Defect, Event, Reading, Refusal, Unread, Whole};
 use frame::reading::{read_event, read_settings};
 use frame::settings::Settings;
 
@@ -90,60 +90,42 @@ impl Intake {
         if let Some(Passing { refusal, left }) = self.passing {
             return self.pass_over(refusal, left, bytes);
         }
-        match &self.settings {
-            None => self.take_settings(read_settings(bytes), bytes),
-            Some(settings) => {
-                let reading = read_event(settings, bytes);
-                self.take_event(reading, bytes)
-            }
-        }
-    }
-
-    /// The turn that a reading before settings leads to.
-    fn take_settings<'a>(&mut self, reading: Reading<Settings>, bytes: &'a [u8]) -> Turn<'a>
-        requires { state_of self.old ≡ start }
-        ensures { turn_of self.new result ≡ by_outcome None bytes.now (map_outcome in_force (meant exchange reading)) }
-    {
-        match reading {
-            Reading::Whole { content, size } => {
-                self.settings = Some(content);
-                Turn {
-                    step: Step::Settings,
-                    taken: size,
-                }
-            }
-            Reading::Refused { refusal, size } => self.pass_over(refusal, size, bytes),
-            Reading::More => Turn {
-                step: Step::More,
-                taken: 0,
-            },
-            Reading::Unreadable { defect } => Turn {
-                step: Step::Unreadable { defect },
-                taken: 0,
-            },
-        }
-    }
-
-    /// The turn that a reading under settings leads to.
-    fn take_event<'a>(&mut self, reading: Reading<Event<'a>>, bytes: &'a [u8]) -> Turn<'a>
-        requires { self.old.passing ≡ None }
-        ensures { turn_of self.new result ≡ by_outcome (settings_of self.old) bytes.now (map_outcome event (meant happening reading.entry)) }
-    {
-        match reading {
-            Reading::Whole { content, size } => Turn {
-                step: Step::Event { event: content },
+        match self.read(bytes) {
+            Ok(Whole { content, size }) => Turn {
+                step: content,
                 taken: size,
             },
-            Reading::Refused { refusal, size } => self.pass_over(refusal, size, bytes),
-            Reading::More => Turn {
+            Err(Unread::Refused { refusal, size }) => self.pass_over(refusal, size, bytes),
+            Err(Unread::More) => Turn {
                 step: Step::More,
                 taken: 0,
             },
-            Reading::Unreadable { defect } => Turn {
+            Err(Unread::Unreadable { defect }) => Turn {
                 step: Step::Unreadable { defect },
                 taken: 0,
             },
         }
+    }
+
+    /// What the bytes begin with, by the settings in force. Settings that come are in force from here on.
+    fn read<'a>(&mut self, bytes: &'a [u8]) -> Reading<Step<'a>>
+        ensures passing { self.new.passing ≡ self.old.passing }
+        ensures settings { settings_of self.new ≡ settled (settings_of self.old) (reads (settings_of self.old) bytes.now) }
+        ensures reading { meant (entry_of self.new) result ≡ map_outcome Some (reads (settings_of self.old) bytes.now) }
+    {
+        let Some(settings) = &self.settings else {
+            let Whole { content, size } = read_settings(bytes)?;
+            self.settings = Some(content);
+            return Ok(Whole {
+                content: Step::Settings,
+                size,
+            });
+        };
+        let Whole { content, size } = read_event(settings, bytes)?;
+        Ok(Whole {
+            content: Step::Event { event: content },
+            size,
+        })
     }
 
     /// Passes over a frame that has `left` bytes still to come.

@@ -1,7 +1,6 @@
 -- Going over the fields of an OPEN one by one. Assumes nothing.
-use Rattle.std.proofs.Common.{◌≡◌, ℕ, ◌<◌, ◌≤◌, Bool, true, false, cond, ◌||◌, List, [], length, take, drop, Some, None, Option, sym, refl, ap, ◌∙◌, arith, length-drop}
+use Rattle.std.proofs.Common.{◌≡◌, ℕ, ◌<◌, ◌≤◌, Bool, true, false, cond, ◌||◌, List, [], length, take, drop, Some, None, Option, sym, refl, ap, ◌∙◌, arith}
 use Rattle.message.specs.Open.{field_size, is_wrong, is_offer, offers_after}
-use Rattle.message.specs.Steps.{OfferSteps}
 use Rattle.std.proofs.lemmas.List.{nil_from_length}
 use Rattle.std.proofs.lemmas.Bool.Decides.{nat_tests}
 use Rattle.wire.proofs.Cuts.{piece_steps}
@@ -17,7 +16,7 @@ joined over first rest true offered more = refl
 joined over first rest false offered more = refl
 
 module _ (offer : List ℕ → Option Bool) (found : Bool) (bs : List ℕ) where
-  end : length bs ≡ 0 → offers_after offer found bs ≡ Some found
+  pub end : length bs ≡ 0 → offers_after offer found bs ≡ Some found
   unfolding offers_after some
   end h =
       let e = nil_from_length bs h in
@@ -29,13 +28,13 @@ module _ (offer : List ℕ → Option Bool) (found : Bool) (bs : List ℕ) where
       ended : (o found : Bool) → o ≡ false → cond (o || false) None (Some (found || false)) ≡ Some found
       ended o found e = grind (arith, nat_tests)
 
-  over : 0 < length bs → length bs < field_size bs → offers_after offer found bs ≡ None
+  pub over : 0 < length bs → length bs < field_size bs → offers_after offer found bs ≡ None
   unfolding offers_after
   over h l = ap (λ o. cond (o || some (λ x. is_wrong (offer x)) (pieces field_size bs)) None (Some (found || some (λ x. is_offer (offer x)) (pieces field_size bs)))) (field_pieces.over bs h l)
 
-  wrong : 0 < length bs → field_size bs ≤ length bs → offer (take (field_size bs) bs) ≡ None → offers_after offer found bs ≡ None
+  wrong_first : 0 < length bs → field_size bs ≤ length bs → offer (take (field_size bs) bs) ≡ None → offers_after offer found bs ≡ None
   unfolding offers_after some
-  wrong h l e =
+  wrong_first h l e =
       ap (λ ps. cond (overruns field_size bs || some (λ x. is_wrong (offer x)) ps) None (Some (found || some (λ x. is_offer (offer x)) ps))) (field_pieces.first bs h)
       ∙ ap (λ o. cond (overruns field_size bs || (is_wrong o || some (λ x. is_wrong (offer x)) (pieces field_size (drop (field_size bs) bs)))) None (Some (found || (is_offer o || some (λ x. is_offer (offer x)) (pieces field_size (drop (field_size bs) bs)))))) e
       ∙ or_true (overruns field_size bs) _
@@ -44,19 +43,17 @@ module _ (offer : List ℕ → Option Bool) (found : Bool) (bs : List ℕ) where
       or_true true x = refl
       or_true false x = refl
 
-  more : (offered : Bool) → 0 < length bs → field_size bs ≤ length bs → offer (take (field_size bs) bs) ≡ Some offered → offers_after offer (found || offered) (drop (field_size bs) bs) ≡ offers_after offer found bs
+  more_first : (offered : Bool) → 0 < length bs → field_size bs ≤ length bs → offer (take (field_size bs) bs) ≡ Some offered → offers_after offer (found || offered) (drop (field_size bs) bs) ≡ offers_after offer found bs
   unfolding offers_after some
-  more offered h l e =
+  more_first offered h l e =
       sym (ap (λ ps. cond (overruns field_size bs || some (λ x. is_wrong (offer x)) ps) None (Some (found || some (λ x. is_offer (offer x)) ps))) (field_pieces.first bs h)
       ∙ ap (λ o. cond (overruns field_size bs || (is_wrong o || some (λ x. is_wrong (offer x)) (pieces field_size (drop (field_size bs) bs)))) None (Some (found || (is_offer o || some (λ x. is_offer (offer x)) (pieces field_size (drop (field_size bs) bs)))))) e
       ∙ ap (λ o. cond (o || (false || some (λ x. is_wrong (offer x)) (pieces field_size (drop (field_size bs) bs)))) None (Some (found || (offered || some (λ x. is_offer (offer x)) (pieces field_size (drop (field_size bs) bs)))))) (field_pieces.next bs h l)
       ∙ joined (overruns field_size (drop (field_size bs) bs)) false (some (λ x. is_wrong (offer x)) (pieces field_size (drop (field_size bs) bs))) found offered (some (λ x. is_offer (offer x)) (pieces field_size (drop (field_size bs) bs))))
 
-pub offer_steps : (offer : List ℕ → Option Bool) → OfferSteps offer
-offer_steps offer = record {
-  end = end offer;
-  over = over offer;
-  wrong = wrong offer;
-  more = λ found offered bs h l e. more offer found bs offered h l e;
-  shorter = λ bs n. length-drop n bs;
-}
+  -- the same of a field and the fields behind it
+  pub wrong : (field : List ℕ) → 0 < length bs → field_size bs ≤ length bs → field ≡ take (field_size bs) bs → offer field ≡ None → offers_after offer found bs ≡ None
+  wrong field h l f e = wrong_first h l (ap offer (sym f) ∙ e)
+
+  pub more : (field after : List ℕ) (offered : Bool) → 0 < length bs → field_size bs ≤ length bs → field ≡ take (field_size bs) bs → after ≡ drop (field_size bs) bs → offer field ≡ Some offered → offers_after offer (found || offered) after ≡ offers_after offer found bs
+  more field after offered h l f a e = ap (offers_after offer (found || offered)) a ∙ more_first offered h l (ap offer (sym f) ∙ e)

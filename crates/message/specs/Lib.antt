@@ -2,4 +2,3 @@ pub mod Header
 pub mod Open
 pub mod Message
 pub mod Meant
-pub mod Steps

@@ -6,8 +6,8 @@ use Rattle.message.specs.Header.{kind_of}
 use Rattle.message.specs.Open.{Open, read_open}
 use Rattle.message.specs.declared.State.{State}
 use Rattle.message.specs.declared.State.TheVariants.{OpenSent, Established}
-use Rattle.message.specs.declared.Kind.{Kind}
-use Rattle.message.specs.declared.Kind.TheVariants as a_kind
+use Rattle.wire.specs.declared.kinds.Kind.{Kind}
+use Rattle.wire.specs.declared.kinds.Kind.TheVariants as a_kind
 use Rattle.update.specs.Update.{Content, read_update}
 
 -- a NOTIFICATION has a code and a subcode

@@ -1,5 +1,7 @@
 -- OPEN messages. Behind the header of 19 bytes: the version, the network in 2 bytes, the hold time in 2, the identifier in 4, the length of the optional parameters, and these; a parameter of type 2 holds capabilities. Assumes nothing.
-use Rattle.std.specs.Prelude.{ℕ, ◌+◌, Bool, true, false, cond, ◌&&◌, ◌||◌, List, length, drop, Some, None, Option, ◌==◌, slice_index}
+use Rattle.std.specs.Borrow.{Bor}
+use Rattle.std.specs.Fn.{Shared}
+use Rattle.std.specs.Prelude.{◌≡◌, ℕ, ◌+◌, Bool, true, false, cond, not, ◌&&◌, ◌||◌, is_some, unwrap_or, List, length, drop, Some, None, Option, ◌==◌, slice_index}
 use Rattle.attributes.specs.AsPath.{Reading, got, fault}
 use Rattle.attributes.specs.Meaning.{Peer}
 use Rattle.wire.specs.Bytes.{u16_of, u32_of}
@@ -10,16 +12,18 @@ abbrev pub field_size : List ℕ → ℕ
 field_size bs = 2 + slice_index bs 1
 
 abbrev pub is_wrong : Option Bool → Bool
-is_wrong None = true
-is_wrong (Some offered) = false
+is_wrong offered = not (is_some offered)
 
 abbrev pub is_offer : Option Bool → Bool
-is_offer None = false
-is_offer (Some offered) = offered
+is_offer offered = unwrap_or offered false
 
 -- whether one of the fields offers networks of 4 bytes, by what is to be said of each; nothing where one of them is wrong or runs over
 unfoldable pub offers_after : (List ℕ → Option Bool) → Bool → List ℕ → Option Bool
 offers_after offer found bs = cond (overruns field_size bs || some (λ x. is_wrong (offer x)) (pieces field_size bs)) None (Some (found || some (λ x. is_offer (offer x)) (pieces field_size bs)))
+
+-- what a closure of the code says of each field
+abbrev pub Says : {F : Type 0} → Shared F (Bor (List ℕ) × Unit {0}) (Option Bool) → F → (List ℕ → Option Bool) → Type 0
+Says g offer says = (field : Bor (List ℕ)) (offered : Option Bool) → g.post offer (field, tt) offered → offered ≡ says field.now
 
 abbrev pub offers : (List ℕ → Option Bool) → List ℕ → Option Bool
 offers offer bs = offers_after offer false bs

@@ -8,20 +8,13 @@ mod reading;
 pub use attributes::Peer;
 pub use reading::read;
 pub use update::{Attributes, Content};
+pub use wire::Kind;
 
 /// What a session is at: its OPEN is sent and the peer's awaited, or both have come.
 #[derive(Clone, Copy)]
 pub enum State {
     OpenSent,
     Established,
-}
-
-#[derive(Clone, Copy)]
-pub enum Kind {
-    Open,
-    Update,
-    Notification,
-    Keepalive,
 }
 
 #[derive(Clone, Copy)]

@@ -1,9 +1,8 @@
 //! OPEN messages.
-ghost use Rattle.std.specs.Prelude.{◌≡◌};
+ghost use Rattle.std.specs.Prelude.{◌≡◌, ℕ, Bool, List, Option};
 ghost use Rattle.attributes.specs.Meant.{peer_of, reading_of};
 ghost use Rattle.message.specs.Meant.{open_of};
-ghost use Rattle.message.specs.Open.{capability_offer, field_size, is_asn, is_hold_time, is_offer, is_open, offers, parameter_offer, read_open};
-ghost use Rattle.message.specs.Steps.{OfferSteps, OpenSteps};
+ghost use Rattle.message.specs.Open.{capability_offer, field_size, is_asn, is_hold_time, is_open, offers, parameter_offer, read_open, Says};
 
 use crate::Open;
 use attributes::Peer;
@@ -19,10 +18,10 @@ const CAPABILITIES: u8 = 2;
 const AS_TRANS: u16 = 23456;
 
 /// An OPEN that is the peer's.
+#[tactic(auto, unfolding(crate::specs::Open::read_open))]
 pub fn read_open(message: &[u8], peer: Peer) -> Result<Open, Fault>
     ensures { reading_of open_of result ≡ read_open (peer_of peer) message.now }
 {
-    let _ = open_law();
     if !is_open(message, peer) {
         return Err(Fault::Open);
     }
@@ -39,7 +38,7 @@ fn is_open(message: &[u8], peer: Peer) -> bool
         && is_asn(u16_of(skip(message, 20)), peer.asn)
         && is_hold_time(u16_of(skip(message, 22)))
         && 29 + usize::from(byte_at(message, 28)) == message.len()
-        && is_offer(read_parameters(skip(message, 29), peer.asn))
+        && read_parameters(skip(message, 29), peer.asn).unwrap_or(false)
 }
 
 fn is_asn(field: u16, asn: u32) -> bool
@@ -54,33 +53,11 @@ fn is_hold_time(seconds: u16) -> bool
     seconds == 90 || seconds == 0
 }
 
-fn is_offer(offered: Option<bool>) -> bool
-    ensures { result ≡ is_offer offered }
-{
-    match offered {
-        Some(offered) => offered,
-        None => false,
-    }
-}
-
 /// Whether a parameter offers networks in 4 bytes; nothing where one is wrong.
 fn read_parameters(parameters: &[u8], asn: u32) -> Option<bool>
     ensures { result ≡ offers (parameter_offer asn) parameters.now }
 {
-    let _ = parameter_law(asn);
-    let mut found = false;
-    let mut rest = parameters;
-    while !rest.is_empty() {
-        let Some((parameter, after)) = cut(rest, field_size(rest)) else {
-            return None;
-        };
-        let Some(offered) = parameter_offer(parameter, asn) else {
-            return None;
-        };
-        found = found | offered;
-        rest = after;
-    }
-    Some(found)
+    offers(parameters, |parameter| parameter_offer(parameter, asn))
 }
 
 fn parameter_offer(parameter: &[u8], asn: u32) -> Option<bool>
@@ -97,20 +74,7 @@ fn parameter_offer(parameter: &[u8], asn: u32) -> Option<bool>
 fn read_capabilities(capabilities: &[u8], asn: u32) -> Option<bool>
     ensures { result ≡ offers (capability_offer asn) capabilities.now }
 {
-    let _ = capability_law(asn);
-    let mut found = false;
-    let mut rest = capabilities;
-    while !rest.is_empty() {
-        let Some((capability, after)) = cut(rest, field_size(rest)) else {
-            return None;
-        };
-        let Some(offered) = capability_offer(capability, asn) else {
-            return None;
-        };
-        found = found | offered;
-        rest = after;
-    }
-    Some(found)
+    offers(capabilities, |capability| capability_offer(capability, asn))
 }
 
 fn capability_offer(capability: &[u8], asn: u32) -> Option<bool>
@@ -126,27 +90,24 @@ fn capability_offer(capability: &[u8], asn: u32) -> Option<bool>
     }
 }
 
+/// Whether one of the fields offers networks in 4 bytes, by what is to be said of each; nothing where one is wrong.
+fn offers<F: Fn(&[u8]) -> Option<bool>>(fields: &[u8], offer: F) -> Option<bool>
+    requires { F.IsAlwaysCallable offer }
+    ensures { (says : List ℕ → Option Bool) → Says F.Fn offer says → result ≡ offers says fields.now }
+{
+    let mut found = false;
+    let mut rest = fields;
+    while !rest.is_empty() {
+        let (field, after) = cut(rest, field_size(rest))?;
+        found |= offer(field)?;
+        rest = after;
+    }
+    Some(found)
+}
+
 /// How many bytes the first parameter or capability takes.
 fn field_size(fields: &[u8]) -> usize
     ensures { result ≡ field_size fields.now }
 {
     2 + usize::from(byte_at(fields, 1))
-}
-
-fn capability_law(asn: u32) -> bool
-    ensures { OfferSteps (capability_offer asn) }
-{
-    true
-}
-
-fn parameter_law(asn: u32) -> bool
-    ensures { OfferSteps (parameter_offer asn) }
-{
-    true
-}
-
-fn open_law() -> bool
-    ensures { OpenSteps }
-{
-    true
 }

@@ -3,7 +3,7 @@ use Rattle.std.proofs.Common.{◌≡◌, ℕ, ◌+◌, ◌<◌, ◌≤◌, Bool,
 use Rattle.attributes.specs.AsPath.{got, fault}
 use Rattle.attributes.specs.Layout.{attribute_size}
 use Rattle.attributes.specs.Meaning.{Peer, no_fault}
-use Rattle.message.specs.Header.{are_ones, has_length, kind_named, kind_of}
+use Rattle.message.specs.Header.{has_length, kind_named, kind_of}
 use Rattle.message.specs.Message.{Opens, Updates, Notifies, KeepsAlive, as_open, as_update, read_as, read_message}
 use Rattle.message.specs.Open.{is_asn, is_offer, offers, offers_after, parameter_offer, read_open}
 use Rattle.message.specs.declared.State.{State}
@@ -22,7 +22,7 @@ use Rattle.wire.specs.Pieces.{pieces_past, overruns_past, pieces, overruns, some
 
 -- a message that is written has the kind that it was given
 pub header_back : (kind : ℕ) (body : List ℕ) → 19 + length body ≤ 4096 → has_length (kind_named kind) (19 + length body) ≡ true → kind_of (message_bytes kind body) ≡ kind_named kind
-unfolding kind_of header_bytes are_ones
+unfolding kind_of header_bytes
 header_back kind body h l =
     let long = message_long kind body in
     let m = message_bytes kind body in

@@ -31,7 +31,7 @@ pub fn sendable_law(route: &Route) -> bool
     route.metrics.med == 0
 }
 
-// The numbers of a row have 32 bits.
+// The numbers of a row have 32 bits: a proof knows it of a parameter, and not of what a call gave.
 fn fit_law(row: &[u32]) -> bool
     ensures { Fit row.now }
 {

@@ -1,9 +1,9 @@
 -- Parts written one after the other. Assumes nothing.
 use Rattle.std.proofs.Common.{◌≡◌, ℕ, ◌+◌, ◌-◌, ◌*◌, ◌<◌, ◌≤◌, List, [], ◌∷◌, ◌++◌, length, get_or, take, drop, sym, refl, ap, ◌∙◌, subst, arith, length-append, length-drop}
 use borrow.Rule.Slice.PartMut.{put_mid}
-use Rattle.message_write.specs.Put.{Put}
-use Rattle.message_write.specs.Steps.{JoinSteps, NumberSteps, HeaderSteps}
-use Rattle.message_write.specs.Written.{header_bytes, numbers_bytes}
+use Rattle.message_write.specs.Put.{Put, Puts}
+use Rattle.message_write.specs.Written.{numbers_bytes}
+use Rattle.message_write.specs.declared.Writer.{Writer}
 use Rattle.wire.specs.Bytes.{bytes32}
 use Rattle.std.proofs.lemmas.List.{append_assoc, append-nil, take_all, take_more, length-take-le, take_at, drop_at, drop-drop}
 
@@ -31,16 +31,20 @@ put_part place bytes before part e h =
     put place (place + length bytes) bytes before _ refl h
     (ap (λ y. take place before ++ (y ++ drop (place + length bytes - place) (drop place before))) e ∙ ap (λ t. take place before ++ (bytes ++ t)) (drop-drop (place + length bytes - place) place before ∙ ap (λ n. drop n before) all))
 
-pub join : (place end last : ℕ) (x y a b c : List ℕ) → Put place x a b end → Put end y b c last → Put place (x ++ y) a c last
-join place end last x y a b c p q = record {
+join_put : (place end last : ℕ) (x y a b c : List ℕ) → Put place x a b end → Put end y b c last → Put place (x ++ y) a c last
+join_put place end last x y a b c p q = record {
   ended = omega (arith, p.ended, q.ended, length-append x y);
   sized = q.sized ∙ p.sized;
   front = q.front ∙ ap (λ l. l ++ y) p.front ∙ append_assoc (take place a) x y;
   behind = λ n l. q.behind n l ∙ p.behind n (omega (arith, p.ended, q.ended));
 }
 
-pub join_steps : JoinSteps
-join_steps = record { join = λ place end last x y z a b c p q e. subst (λ bs. Put place bs a c last) (sym e) (join place end last x y a b c p q) }
+-- one part after the other
+pub join : (a b c : Writer) (x y z : List ℕ) → Puts x a b → Puts y b c → z ≡ x ++ y → Puts z a c
+join a b c x y z p q e = record {
+  put = subst (λ bs. Put a.end bs a.buffer.now c.buffer.now c.end) (sym e) (join_put a.end b.end c.end x y a.buffer.now b.buffer.now c.buffer.now p.put q.put);
+  same = q.same ∙ p.same;
+}
 
 numbers_push : (ns : List ℕ) (n : ℕ) → numbers_bytes (ns ++ (n ∷ [])) ≡ numbers_bytes ns ++ bytes32 n
 unfolding numbers_bytes
@@ -52,31 +56,33 @@ unfolding numbers_bytes
 numbers_long [] = refl
 numbers_long (n ∷ ns) = let more = numbers_long ns in omega arith
 
-more : (place end last i : ℕ) (ns before middle after : List ℕ) → i < length ns → Put place (numbers_bytes (take i ns)) before middle end → Put end (bytes32 (get_or ns i 0)) middle after last → Put place (numbers_bytes (take (i + 1) ns)) before after last
-more place end last i ns before middle after h p q =
-    let one : numbers_bytes (take (i + 1) ns) ≡ numbers_bytes (take i ns) ++ bytes32 (get_or ns i 0) = ap numbers_bytes (take_more ns i 0 h) ∙ numbers_push (take i ns) (get_or ns i 0) in
-    subst (λ bs. Put place bs before after last) (sym one) (join place end last (numbers_bytes (take i ns)) (bytes32 (get_or ns i 0)) before middle after p q)
-
-nothing : (place : ℕ) (ns before : List ℕ) → place ≤ length before → Put place (numbers_bytes (take 0 ns)) before before place
+-- numbers written one by one
+pub numbers_none : (a : Writer) (ns : List ℕ) → a.end ≤ length a.buffer.now → Puts (numbers_bytes (take 0 ns)) a a
 unfolding numbers_bytes
-nothing place ns before h = record { ended = omega arith; sized = refl; front = sym (append-nil (take place before)); behind = λ n l. refl }
+numbers_none a ns h = record { put = record { ended = omega arith; sized = refl; front = sym (append-nil (take a.end a.buffer.now)); behind = λ n l. refl }; same = refl }
 
-pub number_steps : NumberSteps
-number_steps = record {
-  none = nothing;
-  more = more;
-  all = λ ns. take_all (length ns) ns (omega arith);
-  long = λ ns i h. numbers_long (take i ns) ∙ ap (λ n. 4 * n) (length-take-le i ns h);
-}
+pub numbers_more : (a b c : Writer) (i : ℕ) (ns : List ℕ) → i < length ns → Puts (numbers_bytes (take i ns)) a b → Puts (bytes32 (get_or ns i 0)) b c → Puts (numbers_bytes (take (i + 1) ns)) a c
+numbers_more a b c i ns h p q =
+    join a b c (numbers_bytes (take i ns)) (bytes32 (get_or ns i 0)) _ p q (ap numbers_bytes (take_more ns i 0 h) ∙ numbers_push (take i ns) (get_or ns i 0))
 
-pub header_steps : HeaderSteps
-unfolding header_bytes
-header_steps = record { header = λ kind n. refl }
+pub numbers_all : (ns : List ℕ) → take (length ns) ns ≡ ns
+numbers_all ns = take_all (length ns) ns (omega arith)
+
+pub front_long : (ns : List ℕ) (i : ℕ) → i ≤ length ns → length (numbers_bytes (take i ns)) ≡ 4 * i
+front_long ns i h = numbers_long (take i ns) ∙ ap (λ n. 4 * n) (length-take-le i ns h)
+
+pub ruleset numbering = (numbers_none, numbers_more, numbers_all, front_long)
+
+pub nothing : (a : Writer) → Puts [] a a
+nothing a = record { put = record { ended = omega arith; sized = refl; front = sym (append-nil (take a.end a.buffer.now)); behind = λ n l. refl }; same = refl }
 
 -- five parts, one after the other
-pub join_five : (p e1 e2 e3 e4 e5 : ℕ) (v w x y z a b c d e f : List ℕ) → Put p v a b e1 → Put e1 w b c e2 → Put e2 x c d e3 → Put e3 y d e e4 → Put e4 z e f e5 → Put p (v ++ (w ++ (x ++ (y ++ z)))) a f e5
-join_five p e1 e2 e3 e4 e5 v w x y z a b c d e f h i j k l = join p e1 e5 v _ a b f h (join e1 e2 e5 w _ b c f i (join e2 e3 e5 x _ c d f j (join e3 e4 e5 y z d e f k l)))
+pub join_five : (a b c d e f : Writer) (v w x y z : List ℕ) → Puts v a b → Puts w b c → Puts x c d → Puts y d e → Puts z e f → Puts (v ++ (w ++ (x ++ (y ++ z)))) a f
+join_five a b c d e f v w x y z h i j k l = join a b f v _ _ h (join b c f w _ _ i (join c d f x _ _ j (join d e f y z _ k l refl) refl) refl) refl
 
 -- the same bytes by another name
-pub put_same : (place end : ℕ) (x y before after : List ℕ) → x ≡ y → Put place x before after end → Put place y before after end
-put_same place end x y before after e p = subst (λ bs. Put place bs before after end) e p
+pub put_same : (a b : Writer) (x y : List ℕ) → x ≡ y → Puts x a b → Puts y a b
+put_same a b x y e p = subst (λ bs. Puts bs a b) e p
+
+-- parts with a row of numbers
+pub ruleset parts = (join, numbers_long)

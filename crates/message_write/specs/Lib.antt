@@ -1,3 +1,2 @@
 pub mod Written
 pub mod Put
-pub mod Steps

@@ -2,6 +2,7 @@
 use Rattle.std.specs.Prelude.{ℕ, ◌+◌, ◌*◌, ◌/◌, cond, List, [], ◌∷◌, ◌++◌, length, take, replicate, ◌==◌, nat_lt}
 use Rattle.prefix.specs.Prefix.{Prefix}
 use Rattle.route.specs.Route.{Route}
+use Rattle.std.specs.List.{flat_map}
 use Rattle.wire.specs.Bytes.{bytes16, bytes32}
 
 -- 16 bytes of 255, the length of the whole message, and its kind
@@ -42,8 +43,7 @@ abbrev pub withdrawal_bytes : Prefix → List ℕ
 withdrawal_bytes p = message_bytes 2 (withdrawal_body p)
 
 unfoldable pub numbers_bytes : List ℕ → List ℕ
-numbers_bytes [] = []
-numbers_bytes (n ∷ ns) = bytes32 n ++ numbers_bytes ns
+numbers_bytes ns = flat_map bytes32 ns
 
 -- well-known and transitive (64), type 2: one sequence (2) with all networks of the path
 unfoldable pub path_bytes : List ℕ → List ℕ

@@ -1,67 +1,54 @@
 //! Writing bytes into a lent buffer, one part after the other.
 ghost use Rattle.std.specs.Prelude.{◌≡◌, ◌+◌, ◌*◌, ◌≤◌, length as count};
-ghost use Rattle.message_write.specs.Put.{Put};
-ghost use Rattle.message_write.specs.Steps.{HeaderSteps, JoinSteps, NumberSteps};
+ghost use Rattle.message_write.specs.Put.{Puts};
 ghost use Rattle.message_write.specs.Written.{header_bytes, numbers_bytes};
 ghost use Rattle.wire.specs.Bytes.{bytes32};
+ghost use Rattle.wire.specs.Kinds.{number_of};
 
-/// Writes the bytes from a place on, and says where they end.
-pub fn put_bytes(buffer: &mut [u8], place: usize, bytes: &[u8]) -> usize
-    requires { place + count bytes.now ≤ count buffer.old }
-    ensures { Put place bytes.now buffer.old buffer.new result }
-{
-    let end = place + bytes.len();
-    buffer[place..end].copy_from_slice(bytes);
-    end
-}
+use crate::Writer;
+use wire::Kind;
 
-/// Writes numbers, in 4 bytes each.
-pub fn put_numbers(buffer: &mut [u8], place: usize, numbers: &[u32]) -> usize
-    requires { place + 4 * count numbers.now ≤ count buffer.old }
-    ensures { Put place (numbers_bytes numbers.now) buffer.old buffer.new result }
-{
-    let _ = number_law();
-    let mut end = place;
-    for number in numbers {
-        end = put_number(buffer, end, *number);
+impl Writer<'_> {
+    /// Writes the bytes.
+    #[tactic(auto, using(crate::proofs::Puts::put_part))]
+    pub fn put_bytes(&mut self, bytes: &[u8])
+        requires { self.old.end + count bytes.now ≤ count self.old.buffer.now }
+        ensures { Puts bytes.now self.old self.new }
+    {
+        let (start, end) = (self.end, self.end + bytes.len());
+        let buffer = &mut *self.buffer;
+        buffer[start..end].copy_from_slice(bytes);
+        self.end = end;
     }
-    end
-}
 
-/// Writes a number in 4 bytes.
-pub fn put_number(buffer: &mut [u8], place: usize, number: u32) -> usize
-    requires { place + 4 ≤ count buffer.old }
-    ensures { Put place (bytes32 number) buffer.old buffer.new result }
-{
-    put_bytes(buffer, place, &number.to_be_bytes())
-}
+    /// Writes a number in 4 bytes.
+    pub fn put_number(&mut self, number: u32)
+        requires { self.old.end + 4 ≤ count self.old.buffer.now }
+        ensures { Puts (bytes32 number) self.old self.new }
+    {
+        self.put_bytes(&number.to_be_bytes());
+    }
 
-/// Writes the header of a message.
-pub fn put_header(buffer: &mut [u8], kind: u8, length: u16) -> usize
-    requires { 19 ≤ count buffer.old }
-    ensures put { Put 0 (header_bytes kind length) buffer.old buffer.new result }
-    ensures end { result ≡ 19 }
-{
-    let _ = (header_law(), join_law());
-    let end = put_bytes(buffer, 0, &[255; 16]);
-    let end = put_bytes(buffer, end, &length.to_be_bytes());
-    put_bytes(buffer, end, &[kind])
-}
+    /// Writes numbers, in 4 bytes each.
+    #[tactic(auto, using(crate::proofs::Puts::numbering))]
+    pub fn put_numbers(&mut self, numbers: &[u32])
+        requires { self.old.end + 4 * count numbers.now ≤ count self.old.buffer.now }
+        ensures { Puts (numbers_bytes numbers.now) self.old self.new }
+    {
+        for number in numbers {
+            self.put_number(*number);
+        }
+    }
 
-fn number_law() -> bool
-    ensures { NumberSteps }
-{
-    true
-}
-
-fn header_law() -> bool
-    ensures { HeaderSteps }
-{
-    true
-}
-
-pub fn join_law() -> bool
-    ensures { JoinSteps }
-{
-    true
+    /// Writes the header of a message.
+    #[tactic(auto, using(crate::proofs::Puts::join), unfolding(crate::specs::Written::header_bytes))]
+    pub fn put_header(&mut self, kind: Kind, length: u16)
+        requires { self.old.end + 19 ≤ count self.old.buffer.now }
+        ensures put { Puts (header_bytes (number_of kind) length) self.old self.new }
+        ensures end { self.new.end ≡ self.old.end + 19 }
+    {
+        self.put_bytes(&[255; 16]);
+        self.put_bytes(&length.to_be_bytes());
+        self.put_bytes(&[u8::from(kind)]);
+    }
 }

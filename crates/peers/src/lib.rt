@@ -2,6 +2,9 @@
 #![tactic(auto)]
 
 mod methods;
+mod peer;
+
+pub use peer::Peer;
 
 #[derive(Clone, Copy)]
 pub struct PeerSet {

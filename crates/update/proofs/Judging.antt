@@ -1,17 +1,19 @@
 -- What is found among attributes read one by one is what the message says. Assumes nothing.
-use Rattle.std.proofs.Common.{◌≡◌, ℕ, ◌<◌, ◌≤◌, Bool, true, false, cond, not, ◌&&◌, ◌||◌, eqb, ltb, leb, List, [], ◌∷◌, length, get_or, Some, None, sym, refl, ap, ◌∙◌, arith}
+use Rattle.std.proofs.Common.{◌≡◌, ℕ, ◌<◌, ◌≤◌, Bool, true, false, cond, not, ◌&&◌, ◌||◌, eqb, ltb, leb, List, [], ◌∷◌, length, get_or, Some, None, Option, Ok, Err, Result, ok_or, sym, refl, ap, ◌∙◌, arith}
 use Rattle.attributes.specs.AsPath.{Reading, got, fault, segment_size, path_in, is_path, read_path}
 use Rattle.attributes.specs.Layout.{attribute_size, type_of, value_of, kind_of, has_flags, has_length, has_form}
 use Rattle.attributes.specs.Meaning.{NextHop as a_hop_value, Communities as a-row-value, Med as a-med, Unused as unused, Path as a-way}
 use Rattle.attributes.specs.Meaning.{Peer, Value, as_path, read_value, read_attribute, lower, no_fault}
 use Rattle.attributes.specs.declared.Kind.{Kind}
 use Rattle.attributes.specs.declared.Kind.TheVariants.{Origin, AsPath, NextHop, Med, LocalPref, Communities, Other}
+use Rattle.fault.specs.Fault.{code}
+use Rattle.fault.specs.declared.Fault.{Fault}
+use Rattle.fault.specs.declared.Fault.TheVariants as a_fault
 use Rattle.route.specs.Numbers.{is_in, sorted}
 use Rattle.std.proofs.lemmas.Bool.{eqb-true}
 use Rattle.std.proofs.lemmas.Bool.Decides.{nat_tests}
 use Rattle.update.specs.Finding.{Found, no_types, with_type, noted, take_reading, add, add_all, find_all, nothing_found, both_checked, announced, judged, content_from}
 use Rattle.update.specs.Sections.{sections_end, withdrawn_in, attributes_in, announced_in}
-use Rattle.update.specs.Steps.{UpdateSteps}
 use Rattle.update.specs.Update.{Content, Announces, Withdraws, Faulty, attributes_of, types_of, announces, repeats, is_malformed, has_malformed, is_invalid, is_foreign, update_fault, value_at, content_of, read_update}
 use Rattle.wire.specs.Bytes.{numbers, u32_of}
 use Rattle.wire.specs.Nlri.{prefix_size, has_no_prefix, checked, checked_after}
@@ -432,7 +434,7 @@ fits_all : (s w a n : Bool) (c : Content) → s ≡ false → w ≡ false → a 
 fits_all s w a n c d e f g = grind (arith, nat_tests)
 
 module _ (peer : Peer) (m : List ℕ) where
-  short : length m < sections_end m → read_update peer m ≡ fault 4
+  pub short : length m < sections_end m → read_update peer m ≡ fault 4
   unfolding read_update
   short h = grind (arith, nat_tests)
 
@@ -457,18 +459,30 @@ module _ (peer : Peer) (m : List ℕ) where
       fits_all (ltb (length m) (sections_end m)) (overruns prefix_size (withdrawn_in m)) (overruns attribute_size (attributes_in m)) (overruns prefix_size (announced_in m)) (content_of peer m) s q.0 p.0 q.1
       ∙ ap got (content_found peer m ∙ ap (λ g. content_from g (has_no_prefix (withdrawn_in m) || has_no_prefix (announced_in m)) (announces m)) p.1 ∙ ap (λ i. content_from f i (announces m)) q.2)
 
+-- an overrun is the only fault of the parts by themselves
+overrun : (o : Option Bool) (e : Fault) → Err e ≡ ok_or o a_fault.Overrun → (o ≡ None) × (e ≡ a_fault.Overrun)
+overrun None e h = (refl, cc)
+overrun (Some b) e h = let z : ◌≡◌ {A = ℕ} 0 1 = cc in absurd (omega arith)
+
+valid : (o : Option Bool) (invalid : Bool) → ◌≡◌ {A = Result Bool Fault} (Ok invalid) (ok_or o a_fault.Overrun) → o ≡ Some invalid
+valid None invalid h = let z : ◌≡◌ {A = ℕ} 0 1 = cc in absurd (omega arith)
+valid (Some b) invalid h = cc
+
+pub over_parted : (peer : Peer) (m withdrawn announced : List ℕ) (e : Fault) → sections_end m ≤ length m → withdrawn ≡ withdrawn_in m → announced ≡ announced_in m → Err e ≡ ok_or (both_checked (checked withdrawn) (checked announced)) a_fault.Overrun → fault (code e) ≡ read_update peer m
+over_parted peer m withdrawn named e h w n r =
+    let o = overrun (both_checked (checked withdrawn) (checked named)) e r in
+    let parts : both_checked (checked (withdrawn_in m)) (checked (announced_in m)) ≡ None = ap (λ l. both_checked (checked l) (checked (announced_in m))) (sym w) ∙ ap (λ l. both_checked (checked withdrawn) (checked l)) (sym n) ∙ o.0 in
+    ap (λ f. fault (code f)) o.1 ∙ sym (over peer m h parts)
+
 -- a row has bytes where it is not empty
 not_empty : (bs : List ℕ) → not (eqb (length bs) 0) ≡ ltb 0 (length bs)
 not_empty bs = grind (arith, nat_tests)
 
-failed_parted : (peer : Peer) (m attributes : List ℕ) (k : ℕ) → sections_end m ≤ length m → attributes ≡ attributes_in m → fault k ≡ find_all peer nothing_found attributes → fault k ≡ read_update peer m
+pub failed_parted : (peer : Peer) (m attributes : List ℕ) (k : ℕ) → sections_end m ≤ length m → attributes ≡ attributes_in m → fault k ≡ find_all peer nothing_found attributes → fault k ≡ read_update peer m
 failed_parted peer m attributes k h a e = sym (failed peer m k h (sym (e ∙ ap (find_all peer nothing_found) a)))
 
-read_parted : (peer : Peer) (m withdrawn attributes announced : List ℕ) (invalid empty : Bool) (f : Found) (content : Content) → sections_end m ≤ length m → withdrawn ≡ withdrawn_in m → attributes ≡ attributes_in m → announced ≡ announced_in m → Some invalid ≡ both_checked (checked withdrawn) (checked announced) → got f ≡ find_all peer nothing_found attributes → empty ≡ eqb (length announced) 0 → content ≡ content_from f invalid (not empty) → got content ≡ read_update peer m
+pub read_parted : (peer : Peer) (m withdrawn attributes announced : List ℕ) (invalid empty : Bool) (f : Found) (content : Content) → sections_end m ≤ length m → withdrawn ≡ withdrawn_in m → attributes ≡ attributes_in m → announced ≡ announced_in m → Ok invalid ≡ ok_or (both_checked (checked withdrawn) (checked announced)) a_fault.Overrun → got f ≡ find_all peer nothing_found attributes → empty ≡ eqb (length announced) 0 → content ≡ content_from f invalid (not empty) → got content ≡ read_update peer m
 read_parted peer m withdrawn attributes named invalid empty f content h w a n b e z c =
     let some-there : not empty ≡ ltb 0 (length (announced_in m)) = ap not z ∙ not_empty named ∙ ap (λ l. ltb 0 (length l)) n in
     ap got (c ∙ ap (content_from f invalid) some-there)
-    ∙ sym (read peer m invalid f h (sym (b ∙ ap (λ l. both_checked (checked l) (checked named)) w ∙ ap (λ l. both_checked (checked (withdrawn_in m)) (checked l)) n)) (sym (e ∙ ap (find_all peer nothing_found) a)))
-
-pub update_steps : UpdateSteps
-update_steps = record { short = short; over = over; failed = failed_parted; read = read_parted }
+    ∙ sym (read peer m invalid f h (sym (ap (λ l. both_checked (checked l) (checked named)) w ∙ ap (λ l. both_checked (checked (withdrawn_in m)) (checked l)) n) ∙ valid (both_checked (checked withdrawn) (checked named)) invalid b) (sym (e ∙ ap (find_all peer nothing_found) a)))

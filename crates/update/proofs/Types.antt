@@ -3,7 +3,6 @@ use Rattle.std.proofs.Common.{◌≡◌, ℕ, zero, suc, ◌<◌, Bool, true, fa
 use mathlib.Core.Path.{fun_ext}
 use Rattle.std.proofs.lemmas.Bool.Decides.{nat_tests}
 use Rattle.update.specs.Finding.{types_in, no_types, with_type}
-use Rattle.update.specs.Steps.{TypeSteps}
 
 get_or_false : (n t : ℕ) → get_or (replicate n false) t false ≡ false
 get_or_false zero t = refl
@@ -17,17 +16,16 @@ get_or_more (b ∷ row) zero (suc u) h = grind (arith, nat_tests)
 get_or_more (b ∷ row) (suc t) zero h = grind (arith, nat_tests)
 get_or_more (b ∷ row) (suc t) (suc u) h = let more = get_or_more row t u in grind (arith, nat_tests)
 
-none : types_in (replicate 256 false) ≡ no_types
+pub none : types_in (replicate 256 false) ≡ no_types
 unfolding types_in no_types
 none = fun_ext (get_or_false 256)
 
-at : (row : List Bool) (t : ℕ) → types_in row t ≡ get_or row t false
+pub at : (row : List Bool) (t : ℕ) → types_in row t ≡ get_or row t false
 unfolding types_in
 at row t = refl
 
-more : (row : List Bool) (t : ℕ) → t < length row → types_in (set row t true) ≡ with_type t (types_in row)
+pub more : (row : List Bool) (t : ℕ) → t < length row → types_in (set row t true) ≡ with_type t (types_in row)
 unfolding types_in with_type
 more row t h = fun_ext (λ u. get_or_more row t u h)
 
-pub type_steps : TypeSteps
-type_steps = record { none = none; at = at; more = more }
+pub ruleset noting = (none, at, more)

@@ -1,8 +1,9 @@
 -- Reading attributes one by one. Assumes nothing.
-use Rattle.std.specs.Prelude.{ℕ, Bool, true, false, cond, ◌||◌, List, [], ◌∷◌, Some, None, Option, ◌==◌, nat_lt, slice_index_or}
+use Rattle.std.specs.Prelude.{ℕ, Bool, true, false, cond, ◌||◌, List, [], Some, None, Option, ◌==◌, nat_lt, slice_index_or}
 use Rattle.attributes.specs.AsPath.{Reading, got, fault}
 use Rattle.attributes.specs.Layout.{attribute_size, type_of}
 use Rattle.attributes.specs.Meaning.{Peer, Value, Path, NextHop, Med, Communities, Unused, read_attribute, lower, no_fault}
+use Rattle.std.specs.List.{fold}
 use Rattle.update.specs.Update.{Content, Announces, Withdraws, Faulty}
 use Rattle.wire.specs.Pieces.{pieces, overruns}
 use Rattle.wire.specs.declared.nlri.Check.{Check}
@@ -51,8 +52,7 @@ unfoldable pub add : Peer → Found → List ℕ → Found
 add peer f a = take_reading (read_once (f.types (type_of a)) peer a) (noted (type_of a) f)
 
 unfoldable pub add_all : Peer → Found → List (List ℕ) → Found
-add_all peer f [] = f
-add_all peer f (a ∷ rest) = add_all peer (add peer f a) rest
+add_all peer f attributes = fold (add peer) f attributes
 
 abbrev pub nothing_found : Found
 nothing_found = record { types = no_types; fault = no_fault; path = None; next_hop = false; med = 0; communities = [] }

@@ -2,4 +2,3 @@ pub mod Sections
 pub mod Finding
 pub mod Update
 pub mod Meant
-pub mod Steps

@@ -1,15 +1,16 @@
 //! Reading the attributes one by one.
 ghost use Rattle.std.specs.Prelude.{◌≡◌};
+ghost use Rattle.attributes.specs.AsPath.{fault as failed};
+ghost use Rattle.attributes.specs.Layout.{type_of};
 ghost use Rattle.attributes.specs.Meant.{meaning_of, peer_of, reading_of};
-ghost use Rattle.attributes.specs.Meaning.{lower};
 ghost use Rattle.fault.specs.Fault.{code};
-ghost use Rattle.update.specs.Finding.{add, find_all, no_types, nothing_found, read_once, take_reading, take_value, types_in, with_type};
-ghost use Rattle.update.specs.Meant.{fault_number, found_of};
-ghost use Rattle.update.specs.Steps.{AddSteps, FindSteps, TypeSteps};
+ghost use Rattle.update.specs.Finding.{add, find_all, no_types, noted, nothing_found, read_once, take_reading, take_value, types_in, with_type};
+ghost use Rattle.update.specs.Meant.{found_of};
 
 use attributes::{Peer, Value, attribute_size, read_attribute};
 use fault::Fault;
 use route::{Communities, Path};
+use std::mem;
 use wire::{byte_at, cut};
 
 /// The types of the attributes so far.
@@ -19,25 +20,22 @@ pub struct Seen {
 }
 
 impl Seen {
+    #[tactic(auto, using(crate::proofs::Types::noting))]
     fn none() -> Seen
         ensures { types_in result.types ≡ no_types }
     {
-        let _ = type_law();
         Seen {
             types: [false; 256],
         }
     }
 
     /// Notes a type, and says whether it was there before.
+    #[tactic(auto, using(crate::proofs::Types::noting))]
     fn add(&mut self, number: u8) -> bool
         ensures before { result ≡ types_in self.old.types number }
         ensures after { types_in self.new.types ≡ with_type number (types_in self.old.types) }
     {
-        let _ = type_law();
-        let place = usize::from(number);
-        let before = self.types[place];
-        self.types[place] = true;
-        before
+        mem::replace(&mut self.types[usize::from(number)], true)
     }
 }
 
@@ -47,29 +45,10 @@ pub struct Found {
     pub seen: Seen,
     pub fault: Option<Fault>,
     pub path: Option<Path>,
+    /// No value stands beside it: a next hop is the peer's address.
     pub has_next_hop: bool,
     pub med: u32,
     pub communities: Communities,
-}
-
-/// The one of the two faults that has the lower number.
-pub fn lower(found: Option<Fault>, fault: Fault) -> Option<Fault>
-    ensures { fault_number result ≡ lower (fault_number found) (code fault) }
-{
-    match found {
-        None => Some(fault),
-        Some(found) => Some(lower_of(found, fault)),
-    }
-}
-
-fn lower_of(found: Fault, fault: Fault) -> Fault
-    ensures { code result ≡ lower (code found) (code fault) }
-{
-    if fault.code() < found.code() {
-        fault
-    } else {
-        found
-    }
 }
 
 impl Found {
@@ -86,23 +65,37 @@ impl Found {
         }
     }
 
-    /// Takes in one more attribute.
+    /// Notes a fault; of two the one with the lower number counts.
+    pub fn note(&mut self, fault: Fault)
+        ensures { found_of self.new ≡ take_reading (failed (code fault)) (found_of self.old) }
+    {
+        let lowest = match self.fault {
+            Some(found) if found.code() <= fault.code() => found,
+            _ => fault,
+        };
+        self.fault = Some(lowest);
+    }
+
+    /// Takes in one more attribute: what it says, or its fault.
+    #[tactic(auto, unfolding(crate::specs::Finding::add))]
     fn add(&mut self, attribute: &[u8], peer: Peer)
         ensures { found_of self.new ≡ add (peer_of peer) (found_of self.old) attribute.now }
     {
-        let _ = add_law();
-        let again = self.seen.add(byte_at(attribute, 1));
-        self.take(read_once(again, attribute, peer));
+        match self.read_once(attribute, peer) {
+            Ok(value) => self.take_value(value),
+            Err(fault) => self.note(fault),
+        }
     }
 
-    /// Takes in what an attribute says, or notes its fault.
-    fn take(&mut self, reading: Result<Value, Fault>)
-        ensures { found_of self.new ≡ take_reading (reading_of meaning_of reading) (found_of self.old) }
+    /// What an attribute says. One whose type was there before is a fault.
+    fn read_once(&mut self, attribute: &[u8], peer: Peer) -> Result<Value, Fault>
+        ensures reading { reading_of meaning_of result ≡ read_once ((found_of self.old).types (type_of attribute.now)) (peer_of peer) attribute.now }
+        ensures noted { found_of self.new ≡ noted (type_of attribute.now) (found_of self.old) }
     {
-        match reading {
-            Ok(value) => self.take_value(value),
-            Err(fault) => self.fault = lower(self.fault, fault),
+        if self.seen.add(byte_at(attribute, 1)) {
+            return Err(Fault::Attribute);
         }
+        read_attribute(attribute, peer)
     }
 
     fn take_value(&mut self, value: Value)
@@ -119,46 +112,16 @@ impl Found {
 }
 
 /// What the attributes say; one that runs over their part is a fault that ends the reading.
+#[tactic(auto, using(crate::proofs::Finds::finding))]
 pub fn read_attributes(attributes: &[u8], peer: Peer) -> Result<Found, Fault>
     ensures { reading_of found_of result ≡ find_all (peer_of peer) nothing_found attributes.now }
 {
-    let _ = find_law();
     let mut found = Found::nothing();
     let mut rest = attributes;
     while !rest.is_empty() {
-        let Some((attribute, after)) = cut(rest, attribute_size(rest)) else {
-            return Err(Fault::Overrun);
-        };
+        let (attribute, after) = cut(rest, attribute_size(rest)).ok_or(Fault::Overrun)?;
         found.add(attribute, peer);
         rest = after;
     }
     Ok(found)
-}
-
-/// An attribute whose type was there before is a fault.
-fn read_once(again: bool, attribute: &[u8], peer: Peer) -> Result<Value, Fault>
-    ensures { reading_of meaning_of result ≡ read_once again (peer_of peer) attribute.now }
-{
-    if again {
-        return Err(Fault::Attribute);
-    }
-    read_attribute(attribute, peer)
-}
-
-fn type_law() -> bool
-    ensures { TypeSteps }
-{
-    true
-}
-
-fn add_law() -> bool
-    ensures { AddSteps }
-{
-    true
-}
-
-fn find_law() -> bool
-    ensures { FindSteps }
-{
-    true
 }

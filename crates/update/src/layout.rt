@@ -1,7 +1,6 @@
 //! The parts of an UPDATE.
 ghost use Rattle.std.specs.Prelude.{◌≡◌, ◌<◌};
 ghost use Rattle.update.specs.Sections.{announced_in, attributes_in, attributes_length, sections_end, withdrawn_in, withdrawn_length};
-ghost use Rattle.update.specs.Steps.{SectionSteps};
 
 use wire::{first, skip, u16_of};
 
@@ -13,12 +12,12 @@ pub struct Sections<'a> {
 }
 
 /// The parts of a message that is an UPDATE; what is not there is empty.
+#[tactic(auto, unfolding(crate::specs::Sections::withdrawn_in, crate::specs::Sections::attributes_in, crate::specs::Sections::announced_in))]
 pub fn split_update(message: &[u8]) -> Sections<'_>
     ensures withdrawn { result.withdrawn.now ≡ withdrawn_in message.now }
     ensures attributes { result.attributes.now ≡ attributes_in message.now }
     ensures announced { result.announced.now ≡ announced_in message.now }
 {
-    let _ = section_law();
     let withdrawn = withdrawn_length(message);
     let attributes = attributes_length(message);
     Sections {
@@ -29,10 +28,10 @@ pub fn split_update(message: &[u8]) -> Sections<'_>
 }
 
 /// Where the announced prefixes begin, if the message is so long.
+#[tactic(auto, unfolding(crate::specs::Sections::sections_end))]
 pub fn sections_end(message: &[u8]) -> usize
     ensures { result ≡ sections_end message.now }
 {
-    let _ = section_law();
     23 + withdrawn_length(message) + attributes_length(message)
 }
 
@@ -48,10 +47,4 @@ fn attributes_length(message: &[u8]) -> usize
     ensures bound { result < 65536 }
 {
     usize::from(u16_of(skip(message, 21 + withdrawn_length(message))))
-}
-
-fn section_law() -> bool
-    ensures { SectionSteps }
-{
-    true
 }

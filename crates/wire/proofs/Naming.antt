@@ -6,7 +6,7 @@ use Rattle.std.proofs.lemmas.Bool.Decides.{nat_tests}
 use Rattle.wire.specs.Nlri.{prefix_size, holds_prefix, prefix_of, prefixes_of, named, has_no_prefix, checked_after}
 use Rattle.wire.specs.declared.nlri.Check.TheVariants.{Overrun, SomeInvalid, Valid}
 use Rattle.wire.specs.Pieces.{overruns, some}
-use Rattle.wire.specs.Steps.{PieceSteps, CheckSteps, NamedSteps}
+use Rattle.wire.specs.Steps.{PieceSteps}
 use Rattle.wire.proofs.Cuts.{piece_steps}
 
 pub prefix_pieces : PieceSteps prefix_size
@@ -33,10 +33,10 @@ joined_checks : (invalid here rest all over over' : Bool) → over ≡ over' →
 joined_checks true here rest all over over' e f = ap (λ o. cond o Overrun SomeInvalid) (sym e)
 joined_checks false here rest all over over' e f = ap (λ o. cond o Overrun (cond (here || rest) SomeInvalid Valid)) (sym e) ∙ ap (λ a. cond over Overrun (cond a SomeInvalid Valid)) (sym f)
 
-end_of : (bs : List ℕ) → length bs ≡ 0 → named bs ≡ []
+pub end_of : (bs : List ℕ) → length bs ≡ 0 → named bs ≡ []
 end_of bs h = ap named (nil_from_length bs h) ∙ nothing
 
-checked_end : (invalid : Bool) (bs : List ℕ) → length bs ≡ 0 → checked_after invalid bs ≡ cond invalid SomeInvalid Valid
+pub checked_end : (invalid : Bool) (bs : List ℕ) → length bs ≡ 0 → checked_after invalid bs ≡ cond invalid SomeInvalid Valid
 unfolding checked_after
 checked_end invalid bs h =
     let e = nil_from_length bs h in
@@ -44,29 +44,29 @@ checked_end invalid bs h =
     let fine : has_no_prefix bs ≡ false = ap has_no_prefix e ∙ valid_none in
     grind (arith, nat_tests)
 
-checked_over : (invalid : Bool) (bs : List ℕ) → 0 < length bs → length bs < prefix_size bs → checked_after invalid bs ≡ Overrun
+pub checked_over : (invalid : Bool) (bs : List ℕ) → 0 < length bs → length bs < prefix_size bs → checked_after invalid bs ≡ Overrun
 unfolding checked_after
 checked_over invalid bs h l = let long = prefix_pieces.over bs h l in grind (arith, nat_tests)
 
-checked_more : (invalid : Bool) (bs : List ℕ) → 0 < length bs → prefix_size bs ≤ length bs → checked_after (invalid || not (holds_prefix (take (prefix_size bs) bs))) (drop (prefix_size bs) bs) ≡ checked_after invalid bs
+pub checked_more : (invalid : Bool) (bs : List ℕ) → 0 < length bs → prefix_size bs ≤ length bs → checked_after (invalid || not (holds_prefix (take (prefix_size bs) bs))) (drop (prefix_size bs) bs) ≡ checked_after invalid bs
 unfolding checked_after
 checked_more invalid bs h l =
     let fits = prefix_pieces.next bs h l in
     let fine = valid bs h in
     joined_checks invalid (not (holds_prefix (take (prefix_size bs) bs))) _ _ _ _ fits fine
 
-pub check_steps : CheckSteps
-check_steps = record { end = checked_end; over = checked_over; more = checked_more; shorter = λ bs n. length-drop n bs }
+-- checking a row of prefixes piece by piece
+pub ruleset checking = (checked_end, checked_over, checked_more, length-drop)
 
-met : (bs piece after : List ℕ) → 0 < length bs → piece ≡ take (prefix_size bs) bs → after ≡ drop (prefix_size bs) bs → holds_prefix piece ≡ true → named bs ≡ prefix_of piece ∷ named after
+pub met : (bs piece after : List ℕ) → 0 < length bs → piece ≡ take (prefix_size bs) bs → after ≡ drop (prefix_size bs) bs → holds_prefix piece ≡ true → named bs ≡ prefix_of piece ∷ named after
 met bs piece after h p a e =
     let here : holds_prefix (take (prefix_size bs) bs) ≡ true = ap holds_prefix (sym p) ∙ e in
     first bs h ∙ cond-true _ _ _ here ∙ ap (λ x. prefix_of x ∷ named (drop (prefix_size bs) bs)) (sym p) ∙ ap (λ x. prefix_of piece ∷ named x) (sym a)
 
-passed : (bs piece after : List ℕ) → 0 < length bs → piece ≡ take (prefix_size bs) bs → after ≡ drop (prefix_size bs) bs → holds_prefix piece ≡ false → named after ≡ named bs
+pub passed : (bs piece after : List ℕ) → 0 < length bs → piece ≡ take (prefix_size bs) bs → after ≡ drop (prefix_size bs) bs → holds_prefix piece ≡ false → named after ≡ named bs
 passed bs piece after h p a e =
     let here : holds_prefix (take (prefix_size bs) bs) ≡ false = ap holds_prefix (sym p) ∙ e in
     ap named a ∙ sym (first bs h ∙ cond-false _ _ _ here)
 
-pub named_steps : NamedSteps
-named_steps = record { end = end_of; met = met; passed = passed; shorter = λ bs n. length-drop n bs }
+-- the prefixes of a row by its first piece
+pub ruleset naming = (end_of, met, passed, length-drop)

@@ -3,3 +3,4 @@ pub mod Pieces
 pub mod Nlri
 pub mod Steps
 pub mod Meant
+pub mod Kinds

@@ -1,5 +1,6 @@
 -- Rows of pieces, as prefixes, attributes, path segments and capabilities stand in a message: each piece tells its size by its first bytes. Assumes nothing.
-use Rattle.std.specs.Prelude.{ℕ, zero, suc, ◌-◌, Bool, true, false, ◌||◌, List, [], ◌∷◌, take}
+use Rattle.std.specs.Prelude.{ℕ, zero, suc, ◌-◌, Bool, true, false, List, [], ◌∷◌, take}
+use Rattle.std.specs.List.{list_any}
 
 -- the pieces of a row, each with all its bytes; k bytes of a piece that began before are passed over first
 unfoldable pub pieces_past : (List ℕ → ℕ) → ℕ → List ℕ → List (List ℕ)
@@ -25,5 +26,4 @@ overruns size bs = overruns_past size 0 bs
 
 -- some piece is so
 unfoldable pub some : (List ℕ → Bool) → List (List ℕ) → Bool
-some p [] = false
-some p (x ∷ xs) = p x || some p xs
+some p xs = list_any p xs

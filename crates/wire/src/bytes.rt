@@ -1,69 +1,50 @@
 //! Reading bytes.
 ghost use Rattle.std.specs.Prelude.{◌≡◌, ◌<◌, ◌≤◌, length, take, drop, MatchOption, slice_index};
 ghost use Rattle.wire.specs.Bytes.{u16_of, u32_of};
-ghost use Rattle.wire.specs.Steps.{EdgeSteps};
 
 /// The byte at a place; 0 where there is none.
 pub fn byte_at(bytes: &[u8], place: usize) -> u8
     ensures { result ≡ slice_index bytes.now place }
 {
-    let _ = edge_law();
-    if place < bytes.len() { bytes[place] } else { 0 }
+    bytes.get(place).copied().unwrap_or(0)
 }
 
 /// What is behind the first so many bytes.
 pub fn skip(bytes: &[u8], count: usize) -> &[u8]
     ensures { result.now ≡ drop count bytes.now }
 {
-    let _ = edge_law();
-    if count <= bytes.len() {
-        &bytes[count..]
-    } else {
-        &[]
-    }
+    bytes.get(count..).unwrap_or(&[])
 }
 
 /// The first so many bytes, or all where there are fewer.
 pub fn first(bytes: &[u8], count: usize) -> &[u8]
     ensures { result.now ≡ take count bytes.now }
 {
-    let _ = edge_law();
-    if count <= bytes.len() {
-        &bytes[0..count]
-    } else {
-        bytes
-    }
+    bytes.get(..count).unwrap_or(bytes)
 }
 
 /// The first so many bytes, and those behind; none where there are fewer.
 pub fn cut(bytes: &[u8], size: usize) -> Option<(&[u8], &[u8])>
     ensures { MatchOption result (length bytes.now < size) (λ p. (size ≤ length bytes.now) × (p.0.now ≡ take size bytes.now) × (p.1.now ≡ drop size bytes.now)) }
 {
-    if size > bytes.len() {
-        return None;
-    }
-    Some((first(bytes, size), skip(bytes, size)))
+    bytes.split_at_checked(size)
 }
 
 /// The number that the first 2 bytes make.
 pub fn u16_of(bytes: &[u8]) -> u16
     ensures { result ≡ u16_of bytes.now }
 {
-    u16::from(byte_at(bytes, 0)) * 256 + u16::from(byte_at(bytes, 1))
+    u16::from_be_bytes([byte_at(bytes, 0), byte_at(bytes, 1)])
 }
 
 /// The number that the first 4 bytes make.
 pub fn u32_of(bytes: &[u8]) -> u32
     ensures { result ≡ u32_of bytes.now }
 {
-    u32::from(byte_at(bytes, 0)) * 16777216
-        + u32::from(byte_at(bytes, 1)) * 65536
-        + u32::from(byte_at(bytes, 2)) * 256
-        + u32::from(byte_at(bytes, 3))
-}
-
-fn edge_law() -> bool
-    ensures { EdgeSteps }
-{
-    true
+    u32::from_be_bytes([
+        byte_at(bytes, 0),
+        byte_at(bytes, 1),
+        byte_at(bytes, 2),
+        byte_at(bytes, 3),
+    ])
 }

@@ -3,7 +3,6 @@ ghost use Rattle.std.specs.Prelude.{◌≡◌, true, false, [], ◌∷◌, Match
 ghost use Rattle.prefix.specs.Meant.{meant};
 ghost use Rattle.wire.specs.Meant.{named_of};
 ghost use Rattle.wire.specs.Nlri.{checked, holds_prefix, named, prefix_of, prefix_size};
-ghost use Rattle.wire.specs.Steps.{CheckSteps, NamedSteps};
 
 use crate::bytes::{byte_at, cut, first, skip, u32_of};
 use prefix::Prefix;
@@ -19,17 +18,17 @@ pub enum Check {
 }
 
 /// Whether the part holds prefixes and nothing else.
+#[tactic(auto, using(crate::proofs::Naming::checking))]
 pub fn check_prefixes(part: &[u8]) -> Check
     ensures { result ≡ checked part.now }
 {
-    let _ = check_law();
     let mut rest = part;
     let mut invalid = false;
     while !rest.is_empty() {
         let Some((piece, after)) = cut(rest, prefix_size(rest)) else {
             return Check::Overrun;
         };
-        invalid = invalid | !holds_prefix(piece);
+        invalid |= !holds_prefix(piece);
         rest = after;
     }
     if invalid {
@@ -53,21 +52,18 @@ impl<'a> Prefixes<'a> {
     }
 
     /// The next prefix; what is no prefix is passed over.
+    #[tactic(auto, using(crate::proofs::Naming::naming))]
     pub fn next(&mut self) -> Option<Prefix>
         ensures { MatchOption result ((named_of self.old ≡ []) × (named_of self.new ≡ [])) (λ p. named_of self.old ≡ meant p ∷ named_of self.new) }
     {
-        let _ = named_law();
-        let mut rest = self.rest;
-        while !rest.is_empty() {
-            let size = prefix_size(rest);
-            let piece = first(rest, size);
-            rest = skip(rest, size);
+        while !self.rest.is_empty() {
+            let size = prefix_size(self.rest);
+            let piece = first(self.rest, size);
+            self.rest = skip(self.rest, size);
             if let Some(prefix) = prefix_in(piece) {
-                self.rest = rest;
                 return Some(prefix);
             }
         }
-        self.rest = rest;
         None
     }
 }
@@ -94,16 +90,4 @@ fn prefix_in(piece: &[u8]) -> Option<Prefix>
         return None;
     }
     Prefix::new(u32_of(skip(piece, 1)), byte_at(piece, 0))
-}
-
-fn check_law() -> bool
-    ensures { CheckSteps }
-{
-    true
-}
-
-fn named_law() -> bool
-    ensures { NamedSteps }
-{
-    true
 }

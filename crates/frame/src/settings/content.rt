@@ -3,7 +3,7 @@ ghost use Rattle.std.specs.Prelude.{◌≡◌, ◌+◌, ◌*◌, ◌≤◌, leng
 ghost use Rattle.frame.specs.Settings.{exchange, peer_of, peer_at, settings_at};
 
 use super::{MAX_PEERS, Peer, Settings};
-use crate::bytes::u32_at;
+use wire::{skip, u32_of};
 
 impl Settings {
     /// The server's own autonomous system.
@@ -31,39 +31,39 @@ impl Settings {
     pub fn peer(&self, number: u8) -> Option<Peer>
         ensures { result ≡ peer_of (exchange self.now) number }
     {
-        if number < self.count {
-            Some(self.peers[number as usize])
-        } else {
-            None
-        }
+        let peers = &self.peers[..usize::from(self.count)];
+        peers.get(usize::from(number)).copied()
     }
 }
 
 /// The peer with this number in a settings frame.
+#[tactic(auto, using(crate::proofs::Numbers::numbers_behind))]
 fn peer_at(frame: &[u8], number: usize) -> Peer
     requires { 18 + 8 * number ≤ length frame.now }
     ensures { result ≡ peer_at frame.now number }
 {
-    let at = 10 + 8 * number;
+    let bytes = skip(frame, 10 + 8 * number);
     Peer {
-        asn: u32_at(frame, at),
-        address: u32_at(frame, at + 4),
+        asn: u32_of(bytes),
+        address: u32_of(skip(bytes, 4)),
     }
 }
 
 /// The settings in a settings frame.
+#[tactic(auto, using(crate::proofs::Numbers::numbers_behind))]
 pub fn settings_at(frame: &[u8]) -> Settings
     requires { (slice_index frame.now 1 ≤ 64) × (10 + 8 * slice_index frame.now 1 ≤ length frame.now) }
     ensures { exchange result ≡ settings_at frame.now }
 {
     let count = frame[1];
     let mut peers = [Peer { asn: 0, address: 0 }; MAX_PEERS];
-    for i in 0..count as usize {
+    // By its number: what is written through `iter_mut` is not known afterwards.
+    for i in 0..usize::from(count) {
         peers[i] = peer_at(frame, i);
     }
     Settings {
-        asn: u32_at(frame, 2),
-        address: u32_at(frame, 6),
+        asn: u32_of(skip(frame, 2)),
+        address: u32_of(skip(frame, 6)),
         peers,
         count,
     }

@@ -22,9 +22,7 @@ impl Buffer {
     pub fn at_hand(&self) -> &[u8]
         ensures { result.now ≡ at_hand self.now }
     {
-        let (start, end) = (self.start, self.end);
-        let all = &self.bytes[..];
-        &all[start..end]
+        &self.bytes[self.start..self.end]
     }
 
     /// The first `count` bytes, or all if there are fewer, are done with.
@@ -59,10 +57,9 @@ impl Buffer {
     fn move_to_front(&mut self)
         ensures { at_hand self.new ≡ at_hand self.old }
     {
-        let (start, end) = (self.start, self.end);
-        self.bytes.copy_within(start..end, 0);
+        self.bytes.copy_within(self.start..self.end, 0);
+        self.end -= self.start;
         self.start = 0;
-        self.end = end - start;
     }
 }
 

@@ -1,4 +1,0 @@
-use Rattle.message_write.proofs.parts.put_path.Goals as goal
-
-pub returns : goal.returns
-returns c = c.join_law.ensures.join c.args.place c.put_bytes-end.result c.put_numbers.result _ _ _ c.args.buffer.now c.put_bytes-end.new.buffer c.put_numbers.new.buffer c.put_bytes-end.ensures c.put_numbers.ensures (c.attribute_law.ensures.path c.args.asns.now)
