@@ -45,6 +45,7 @@ impl<R: Rib, O: Output> Speaker<R, O> {
     pub(crate) fn finish(&mut self, event: Event<'_>)
         ensures { Finishes O.Output.writes (happening event.entry) (state_of R.Rib.received self.old) (state_of R.Rib.received self.new) }
     {
+        // Called, since the length of a set's row is known only in its own crate.
         self.outbox.reached().outside_law();
         self.sessions.sent_to(self.outbox.reached());
         if is_tick(event) {
