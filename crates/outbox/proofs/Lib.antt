@@ -1,4 +1,3 @@
-pub mod Enclosed
 pub mod Shortness
 pub mod Rows
 pub mod Sending

@@ -2,6 +2,8 @@
 use Rattle.std.specs.Prelude.{ℕ, Bool, false, ◌||◌, List, [], ◌∷◌, ◌++◌, length, Some, None, Option, ◌==◌}
 use Rattle.message_write.specs.Written.{withdrawal_bytes, announcement_bytes}
 use Rattle.model.specs.Updates.{Update}
+use Rattle.outbox.specs.declared.framing.Kind.{Kind}
+use Rattle.outbox.specs.declared.framing.Kind.TheVariants as kind
 use Rattle.prefix.specs.Prefix.{prefix_of}
 use Rattle.route.specs.Route.{Route}
 use Rattle.wire.specs.Bytes.{bytes16}
@@ -10,6 +12,11 @@ use Rattle.wire.specs.Bytes.{bytes16}
 pub data Frame : Type 0 where
   Carries : (peer : ℕ) → (message : List ℕ) → Frame
   Closes : (peer : ℕ) → Frame
+
+-- the first byte of a frame says what it is for
+abbrev pub number : Kind → ℕ
+number kind.Carries = 16
+number kind.Closes = 17
 
 -- 16, the peer, the message's length in 2 bytes, and the message; or 17 and the peer
 abbrev pub frame_bytes : Frame → List ℕ

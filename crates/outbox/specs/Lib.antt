@@ -2,4 +2,3 @@ pub mod Frames
 pub mod Outbox
 pub mod Laws
 pub mod Message
-pub mod Steps

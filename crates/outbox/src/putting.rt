@@ -8,17 +8,14 @@ ghost use Rattle.outbox.specs.Message.{bytes_of};
 ghost use Rattle.outbox.specs.Outbox.{Begun, Flushes, Puts, SendsBy, box_of};
 ghost use Rattle.peers.specs.Members.{is_member};
 
-use crate::framing::{Message, ROOM, frame};
+use crate::framing::{Kind, Message, ROOM, frame};
 use crate::{Outbox, Output};
 use fault::Fault;
 use message_laws::sendable_law;
 use peers::PeerSet;
-use prefix::{Prefix, number_laws};
+use prefix::Prefix;
 use route::Route;
 use telling::Sink;
-
-/// A frame that says that a session is taken down.
-const CLOSES: u8 = 17;
 
 impl<O: Output> Outbox<O> {
     /// An outbox of the server of that network and address. Nobody has been reached.
@@ -91,7 +88,7 @@ impl<O: Output> Outbox<O> {
     pub fn close(&mut self, peer: u8)
         ensures { Puts O.Output.writes (box_of self.old) (Closes peer) (box_of self.new) }
     {
-        self.output.write(&[CLOSES, peer]);
+        self.output.write(&[Kind::Closes.into(), peer]);
     }
 
     /// Carries a message to the peer.
@@ -99,8 +96,8 @@ impl<O: Output> Outbox<O> {
         ensures { Puts O.Output.writes (box_of self.old) (Carries peer (bytes_of self.old.own_asn self.old.address message.now)) (box_of self.new) }
     {
         let mut buffer = [0; ROOM];
-        let length = frame(&mut buffer, peer, message, self.own_asn, self.address);
-        self.output.write(&buffer[0..length]);
+        let frame = frame(&mut buffer, peer, message, self.own_asn, self.address);
+        self.output.write(frame);
         self.reached.set(peer, true);
     }
 }
@@ -109,10 +106,9 @@ impl<O: Output> Sink for Outbox<O> {
     ghost sends = { SendsBy O.Output.writes };
 
     fn send(&mut self, peer: u8, prefix: Prefix, route: Option<&Route>) {
-        let _ = number_laws();
         match route {
             Some(route) => {
-                let _ = sendable_law(route);
+                sendable_law(route);
                 self.carry(peer, &Message::Announcement(*route));
             }
             None => self.carry(peer, &Message::Withdrawal(prefix)),

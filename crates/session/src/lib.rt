@@ -16,7 +16,7 @@ pub const HOLD_TIME: u8 = 90;
 pub const KEEPALIVE_TIME: u8 = 30;
 
 /// How far a session has come up.
-#[derive(Clone, Copy)]
+#[derive(Clone, Copy, Debug, PartialEq, Eq)]
 pub enum Phase {
     /// There is no connection.
     Down,
@@ -27,7 +27,7 @@ pub enum Phase {
 }
 
 /// The session of one peer.
-#[derive(Clone, Copy)]
+#[derive(Clone, Copy, Debug, PartialEq, Eq)]
 pub struct Session {
     phase: Phase,
     /// Seconds since a message came or, if none did, since the connection came up.
@@ -41,8 +41,15 @@ impl Session {
     pub fn new() -> Session
         ensures { session_of result ≡ down }
     {
+        Session::fresh(Phase::Down)
+    }
+
+    /// A session that has just come so far: both clocks begin.
+    fn fresh(phase: Phase) -> Session
+        ensures { session_of result ≡ record { phase = phase; heard = 0; sent = 0 } }
+    {
         Session {
-            phase: Phase::Down,
+            phase,
             heard: 0,
             sent: 0,
         }
@@ -59,14 +66,10 @@ impl Session {
     pub fn opened(self) -> Session
         ensures { session_of result ≡ opened (session_of self) }
     {
-        match self.phase {
-            Phase::Down => Session {
-                phase: Phase::OpenSent,
-                heard: 0,
-                sent: 0,
-            },
-            Phase::OpenSent | Phase::Established => self,
+        if !self.is_down() {
+            return self;
         }
+        Session::fresh(Phase::OpenSent)
     }
 
     /// The peer's OPEN came and is right, and the server sends its first KEEPALIVE. A session on which no OPEN is
@@ -74,14 +77,10 @@ impl Session {
     pub fn established(self) -> Session
         ensures { session_of result ≡ established (session_of self) }
     {
-        match self.phase {
-            Phase::OpenSent => Session {
-                phase: Phase::Established,
-                heard: 0,
-                sent: 0,
-            },
-            Phase::Down | Phase::Established => self,
+        if self.phase != Phase::OpenSent {
+            return self;
         }
+        Session::fresh(Phase::Established)
     }
 
     /// A message came.
@@ -102,13 +101,13 @@ impl Session {
     pub fn tick(self) -> Session
         ensures { session_of result ≡ ticked (session_of self) }
     {
-        match self.phase {
-            Phase::Down => self,
-            Phase::OpenSent | Phase::Established => Session {
-                phase: self.phase,
-                heard: later(self.heard),
-                sent: later(self.sent),
-            },
+        if self.is_down() {
+            return self;
+        }
+        Session {
+            heard: later(self.heard),
+            sent: later(self.sent),
+            ..self
         }
     }
 
@@ -116,20 +115,14 @@ impl Session {
     pub fn is_down(self) -> bool
         ensures { result ≡ is_down (session_of self) }
     {
-        match self.phase {
-            Phase::Down => true,
-            Phase::OpenSent | Phase::Established => false,
-        }
+        self.phase == Phase::Down
     }
 
     /// Whether both OPENs have come.
     pub fn is_established(self) -> bool
         ensures { result ≡ is_established (session_of self) }
     {
-        match self.phase {
-            Phase::Established => true,
-            Phase::Down | Phase::OpenSent => false,
-        }
+        self.phase == Phase::Established
     }
 
     /// Whether nothing came for the hold time, on a session that is not down.
@@ -158,9 +151,5 @@ impl Session {
 fn later(seconds: u8) -> u8
     ensures { result ≡ later seconds }
 {
-    if seconds < HOLD_TIME {
-        seconds + 1
-    } else {
-        HOLD_TIME
-    }
+    seconds.saturating_add(1).min(HOLD_TIME)
 }

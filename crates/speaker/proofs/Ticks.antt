@@ -1,5 +1,5 @@
 -- What goes out at a tick, peer by peer, and what a tick comes to. Assumes nothing.
-use Rattle.std.proofs.Common.{◌≡◌, ℕ, zero, suc, ◌<◌, ◌≤◌, Bool, true, false, cond, ◌&&◌, ◌||◌, ltb, List, [], ◌∷◌, ◌++◌, length, take, sym, refl, ap, ◌∙◌, subst, ⊎_elim, add-one, arith, length-take}
+use Rattle.std.proofs.Common.{◌≡◌, ℕ, zero, suc, ◌+◌, ◌<◌, ◌≤◌, Bool, true, false, cond, ◌&&◌, ◌||◌, ltb, List, [], ◌∷◌, ◌++◌, length, take, sym, refl, ap, ◌∙◌, subst, ⊎_elim, add-one, arith, length-take}
 use Rattle.frame.specs.Frame.{Happening, tick}
 use Rattle.message_write.specs.Written.{keepalive_bytes}
 use Rattle.model.proofs.Chains.{none, one, join}
@@ -10,7 +10,7 @@ use Rattle.model.specs.Rows.{PromisedAll}
 use Rattle.model.specs.Stands.{Promised}
 use Rattle.outbox.proofs.Rows.{put_out}
 use Rattle.outbox.specs.Frames.{Carries, reaches_any}
-use Rattle.outbox.specs.Outbox.{box_of, Puts, SendsBy}
+use Rattle.outbox.specs.Outbox.{Box, box_of, Puts, SendsBy}
 use Rattle.outbox.specs.declared.Outbox.{Outbox}
 use Rattle.peers.specs.Members.{is_member}
 use Rattle.server.specs.Meant.{size_of, members_below}
@@ -18,40 +18,73 @@ use Rattle.session.specs.Session.{Session, is_keepalive_due, sent_now}
 use Rattle.sessions.specs.Sessions.{sent_to, sessions_later, silent_in}
 use Rattle.speaker.specs.Serves.{Finishes}
 use Rattle.speaker.specs.State.{State, Level, Takes}
-use Rattle.speaker.specs.Steps.{AliveSteps, AnySteps, DownSteps}
 use Rattle.speaker_model.specs.Effects.{fault_frames}
 use Rattle.speaker_model.specs.World.{any_below, count_of, down_frames, down_row, is_tick, keepalives, step_by}
+use Rattle.std.specs.List.{list_any, range_with_len}
 use Rattle.std.proofs.lemmas.Bool.{both_ways, cases_lt, cond-true, cond-false, false≢true, lt-ltb, or_right}
 
 module _ {O : Type 0} (W : O → List ℕ → O → Type 0) where
-  pub down_steps : (set : ℕ → Bool) (n : ℕ) → DownSteps W set n
+  -- sessions that end, peer by peer
+  pub downs_none : (set : ℕ → Bool) (s : Box O) → Chain (Puts W) s (down_frames 13 set 0) s
   unfolding down_frames
-  down_steps set n = record {
-    none = λ s. none (Puts W) s;
-    out = λ s t u is before ended.
-        subst (λ k. Chain (Puts W) s (down_frames 13 set k) u) (sym (add-one n))
-        (join (Puts W) s t u (down_frames 13 set n) (cond (set n) (fault_frames n 13) []) before (subst (λ l. Chain (Puts W) t l u) (sym (cond-true (set n) (fault_frames n 13) [] is)) ended));
-    not = λ s t isn't before.
-        subst (λ k. Chain (Puts W) s (down_frames 13 set k) t) (sym (add-one n))
-        (join (Puts W) s t t (down_frames 13 set n) (cond (set n) (fault_frames n 13) []) before (subst (λ l. Chain (Puts W) t l t) (sym (cond-false (set n) (fault_frames n 13) [] isn't)) (none (Puts W) t)));
-  }
+  downs_none set s = none (Puts W) s
 
-  pub alive_steps : (sessions : ℕ → Session) (n : ℕ) → AliveSteps W sessions n
+  pub downs_more : (set : ℕ → Bool) (n : ℕ) (s t u : Box O) → set n ≡ true → Chain (Puts W) s (down_frames 13 set n) t → Chain (Puts W) t (fault_frames n 13) u → Chain (Puts W) s (down_frames 13 set (n + 1)) u
+  unfolding down_frames
+  downs_more set n s t u is before ended =
+      subst (λ k. Chain (Puts W) s (down_frames 13 set k) u) (sym (add-one n))
+      (join (Puts W) s t u (down_frames 13 set n) (cond (set n) (fault_frames n 13) []) before (subst (λ l. Chain (Puts W) t l u) (sym (cond-true (set n) (fault_frames n 13) [] is)) ended))
+
+  pub downs_kept : (set : ℕ → Bool) (n : ℕ) (s t : Box O) → set n ≡ false → Chain (Puts W) s (down_frames 13 set n) t → Chain (Puts W) s (down_frames 13 set (n + 1)) t
+  unfolding down_frames
+  downs_kept set n s t isn't before =
+      subst (λ k. Chain (Puts W) s (down_frames 13 set k) t) (sym (add-one n))
+      (join (Puts W) s t t (down_frames 13 set n) (cond (set n) (fault_frames n 13) []) before (subst (λ l. Chain (Puts W) t l t) (sym (cond-false (set n) (fault_frames n 13) [] isn't)) (none (Puts W) t)))
+
+  -- keepalives, peer by peer
+  pub alive_none : (sessions : ℕ → Session) (s : Box O) → Chain (Puts W) s (keepalives sessions 0) s
   unfolding keepalives
-  alive_steps sessions n = record {
-    none = λ s. none (Puts W) s;
-    due = λ s t u is before told.
-        subst (λ k. Chain (Puts W) s (keepalives sessions k) u) (sym (add-one n))
-        (join (Puts W) s t u (keepalives sessions n) (cond (is_keepalive_due (sessions n)) (Carries n keepalive_bytes ∷ []) []) before
-        (subst (λ l. Chain (Puts W) t l u) (sym (cond-true (is_keepalive_due (sessions n)) (Carries n keepalive_bytes ∷ []) [] is)) (one (Puts W) t u (Carries n keepalive_bytes) told)));
-    not = λ s t isn't before.
-        subst (λ k. Chain (Puts W) s (keepalives sessions k) t) (sym (add-one n))
-        (join (Puts W) s t t (keepalives sessions n) (cond (is_keepalive_due (sessions n)) (Carries n keepalive_bytes ∷ []) []) before (subst (λ l. Chain (Puts W) t l t) (sym (cond-false (is_keepalive_due (sessions n)) (Carries n keepalive_bytes ∷ []) [] isn't)) (none (Puts W) t)));
-  }
+  alive_none sessions s = none (Puts W) s
 
-pub any_steps : (set : ℕ → Bool) → AnySteps set
+  pub alive_more : (sessions : ℕ → Session) (n : ℕ) (s t u : Box O) → is_keepalive_due (sessions n) ≡ true → Chain (Puts W) s (keepalives sessions n) t → Puts W t (Carries n keepalive_bytes) u → Chain (Puts W) s (keepalives sessions (n + 1)) u
+  unfolding keepalives
+  alive_more sessions n s t u is before told =
+      subst (λ k. Chain (Puts W) s (keepalives sessions k) u) (sym (add-one n))
+      (join (Puts W) s t u (keepalives sessions n) (cond (is_keepalive_due (sessions n)) (Carries n keepalive_bytes ∷ []) []) before
+      (subst (λ l. Chain (Puts W) t l u) (sym (cond-true (is_keepalive_due (sessions n)) (Carries n keepalive_bytes ∷ []) [] is)) (one (Puts W) t u (Carries n keepalive_bytes) told)))
+
+  pub alive_kept : (sessions : ℕ → Session) (n : ℕ) (s t : Box O) → is_keepalive_due (sessions n) ≡ false → Chain (Puts W) s (keepalives sessions n) t → Chain (Puts W) s (keepalives sessions (n + 1)) t
+  unfolding keepalives
+  alive_kept sessions n s t isn't before =
+      subst (λ k. Chain (Puts W) s (keepalives sessions k) t) (sym (add-one n))
+      (join (Puts W) s t t (keepalives sessions n) (cond (is_keepalive_due (sessions n)) (Carries n keepalive_bytes ∷ []) []) before (subst (λ l. Chain (Puts W) t l t) (sym (cond-false (is_keepalive_due (sessions n)) (Carries n keepalive_bytes ∷ []) [] isn't)) (none (Puts W) t)))
+
+pub ruleset downs = (downs_none, downs_more, downs_kept)
+
+pub ruleset alives = (alive_none, alive_more, alive_kept)
+
+-- one of the peers below n is so, by std's word for it
+any_more : (set : ℕ → Bool) (a n : ℕ) → list_any set (range_with_len a (suc n)) ≡ (list_any set (range_with_len a n) || set (a + n))
+any_more set a zero = or_none (set a) (set (a + 0)) (ap set (omega arith))
+  where
+    or_none : (b d : Bool) → b ≡ d → (b || false) ≡ d
+    or_none true d e = e
+    or_none false d e = e
+any_more set a (suc n) =
+    ap (λ b. set a || b) (any_more set (a + 1) n) ∙ or_more (set a) (list_any set (range_with_len (a + 1) n)) (set (a + 1 + n)) (set (a + suc n)) (ap set (omega arith))
+  where
+    or_more : (b d e f : Bool) → e ≡ f → (b || (d || e)) ≡ ((b || d) || f)
+    or_more true d e f h = refl
+    or_more false true e f h = refl
+    or_more false false e f h = h
+
+pub any_in_range : (set : ℕ → Bool) (n : ℕ) → list_any set (range_with_len 0 n) ≡ any_below n set
 unfolding any_below
-any_steps set = record { none = refl; more = λ n. ap (λ k. any_below k set) (add-one n) }
+any_in_range set zero = refl
+any_in_range set (suc n) = any_more set 0 n ∙ (λ t. any_in_range set n t || zero_more t)
+  where
+    zero_more : set (0 + n) ≡ set n
+    zero_more = ap set (omega arith)
 
 pub few_taken : {A : Type 0} (n : ℕ) (xs : List A) → n ≤ 64 → length (take n xs) ≤ 64
 few_taken n xs few = omega (arith, length-take n xs)

@@ -1,4 +1,3 @@
 pub mod State
 pub mod Serves
 pub mod Texts
-pub mod Steps

@@ -1,14 +1,11 @@
 //! Sessions that go down.
-ghost use Rattle.std.specs.Prelude.{◌≡◌, false, [], ◌∷◌};
+ghost use Rattle.std.specs.Prelude.{[], ◌∷◌};
 ghost use Rattle.fault.specs.Fault.{code};
 ghost use Rattle.model.specs.Chain.{Chain};
 ghost use Rattle.outbox.specs.Frames.{Closes};
 ghost use Rattle.outbox.specs.Outbox.{Puts, box_of};
-ghost use Rattle.session.specs.Session.{is_down};
-ghost use Rattle.sessions.specs.Sessions.{sessions_of};
-ghost use Rattle.speaker.specs.State.{Takes, state_of};
+ghost use Rattle.speaker.specs.State.{Does, NotDown};
 ghost use Rattle.speaker_model.specs.Effects.{fault_frames, going_down, taken_down};
-ghost use Rattle.speaker_model.specs.World.{peer_step};
 
 use crate::Speaker;
 use fault::Fault;
@@ -19,8 +16,8 @@ use rib::Rib;
 impl<R: Rib, O: Output> Speaker<R, O> {
     /// Takes the session of a peer down for a fault: the peer is told which, and all others what is new.
     pub(crate) fn fail(&mut self, peer: u8, fault: Fault)
-        requires { is_down (sessions_of self.old.sessions peer) ≡ false }
-        ensures { Takes O.Output.writes (peer_step peer (taken_down peer (code fault)) (state_of R.Rib.received self.old).sessions) (state_of R.Rib.received self.old) (state_of R.Rib.received self.new) }
+        requires { NotDown self.old peer }
+        ensures { Does R.Rib.received O.Output.writes peer (taken_down peer (code fault)) self.old self.new }
     {
         end_session(&mut self.outbox, peer, fault);
         self.go_down(peer);
@@ -28,8 +25,8 @@ impl<R: Rib, O: Output> Speaker<R, O> {
 
     /// Takes the session of a peer down that has sent a NOTIFICATION: none goes back.
     pub(crate) fn end(&mut self, peer: u8)
-        requires { is_down (sessions_of self.old.sessions peer) ≡ false }
-        ensures { Takes O.Output.writes (peer_step peer (going_down peer (Closes peer ∷ [])) (state_of R.Rib.received self.old).sessions) (state_of R.Rib.received self.old) (state_of R.Rib.received self.new) }
+        requires { NotDown self.old peer }
+        ensures { Does R.Rib.received O.Output.writes peer (going_down peer (Closes peer ∷ [])) self.old self.new }
     {
         self.outbox.close(peer);
         self.go_down(peer);
@@ -37,8 +34,8 @@ impl<R: Rib, O: Output> Speaker<R, O> {
 
     /// The session of a peer goes down: what it announced is gone, and all others are told what is new.
     pub(crate) fn go_down(&mut self, peer: u8)
-        requires { is_down (sessions_of self.old.sessions peer) ≡ false }
-        ensures { Takes O.Output.writes (peer_step peer (going_down peer []) (state_of R.Rib.received self.old).sessions) (state_of R.Rib.received self.old) (state_of R.Rib.received self.new) }
+        requires { NotDown self.old peer }
+        ensures { Does R.Rib.received O.Output.writes peer (going_down peer []) self.old self.new }
     {
         let session = self.sessions.get(peer);
         self.sessions.set(peer, session.down());

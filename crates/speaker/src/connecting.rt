@@ -1,7 +1,6 @@
 //! Connections that come and go.
-ghost use Rattle.speaker.specs.State.{Takes, state_of};
-ghost use Rattle.speaker_model.specs.World.{step_by};
 ghost use Rattle.frame.specs.Frame.{down, up};
+ghost use Rattle.speaker.specs.State.{Handles};
 
 use crate::Speaker;
 use outbox::Output;
@@ -10,7 +9,7 @@ use rib::Rib;
 impl<R: Rib, O: Output> Speaker<R, O> {
     /// The connection to a peer is there: on a session that is down the server sends its OPEN.
     pub(crate) fn connect(&mut self, peer: u8)
-        ensures { Takes O.Output.writes (step_by (state_of R.Rib.received self.old).exchange (state_of R.Rib.received self.old).now.received (up peer) (state_of R.Rib.received self.old).sessions) (state_of R.Rib.received self.old) (state_of R.Rib.received self.new) }
+        ensures { Handles R.Rib.received O.Output.writes (up peer) self.old self.new }
     {
         if peer >= self.settings.peer_count() {
             return;
@@ -25,7 +24,7 @@ impl<R: Rib, O: Output> Speaker<R, O> {
 
     /// The connection to a peer is lost.
     pub(crate) fn lose(&mut self, peer: u8)
-        ensures { Takes O.Output.writes (step_by (state_of R.Rib.received self.old).exchange (state_of R.Rib.received self.old).now.received (down peer) (state_of R.Rib.received self.old).sessions) (state_of R.Rib.received self.old) (state_of R.Rib.received self.new) }
+        ensures { Handles R.Rib.received O.Output.writes (down peer) self.old self.new }
     {
         if self.sessions.get(peer).is_down() {
             return;

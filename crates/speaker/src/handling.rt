@@ -7,7 +7,7 @@ ghost use Rattle.policy_tables.specs.Meant.{content_of};
 ghost use Rattle.policy_tables.specs.Texts.{nothing};
 ghost use Rattle.rib.specs.Received.{most_peers};
 ghost use Rattle.speaker.specs.Serves.{Promised, Stands};
-ghost use Rattle.speaker.specs.State.{state_of};
+ghost use Rattle.speaker.specs.State.{session_in, state_of};
 ghost use Rattle.speaker.specs.Texts.{AnswersTo};
 ghost use Rattle.speaker_model.specs.World.{count_of};
 
@@ -34,9 +34,7 @@ impl<R: Rib + Drop, O: Output + Drop> Speaker<R, O> {
         ensures { MatchOption result (most_peers < count_of (exchange settings)) (λ s. (exchange s.settings ≡ exchange settings) × (s.outbox.output ≡ output) × (((i p : ℕ) → R.Rib.received rib i p ≡ None) → content_of policies ≡ nothing → Stands (state_of R.Rib.received s) [])) }
     {
         let own_asn = settings.own_asn();
-        let Ok(server) = Server::new(own_asn, settings.peer_count(), policies, rib) else {
-            return None;
-        };
+        let server = Server::new(own_asn, settings.peer_count(), policies, rib).ok()?;
         Some(Speaker {
             settings,
             sessions: Sessions::new(),
@@ -51,9 +49,9 @@ impl<R: Rib, O: Output> Speaker<R, O> {
     /// Does all that an event asks for. The answer is why a policy text was refused, if the event is one that was.
     pub fn handle(&mut self, event: Event<'_>) -> Option<TextRefusal>
         ensures promise { Promised O.Output.writes (happening event.entry) (state_of R.Rib.received self.old) (state_of R.Rib.received self.new) }
-        ensures answer { AnswersTo (count_of (state_of R.Rib.received self.old).exchange) (happening event.entry) result }
+        ensures answer { AnswersTo (count_of (exchange self.old.settings)) (happening event.entry) result }
     {
-        let _ = self.fit_law();
+        self.fit_law();
         self.outbox.begin();
         let refusal = self.step(event);
         self.finish(event);
@@ -77,15 +75,15 @@ impl<R: Rib, O: Output> Speaker<R, O> {
 
     /// How far the session of a peer has come up.
     pub fn phase(&self, peer: u8) -> Phase
-        ensures { result ≡ ((state_of R.Rib.received self.now).sessions peer).phase }
+        ensures { result ≡ (session_in self.now peer).phase }
     {
         self.sessions.get(peer).phase()
     }
 
-    /// The own network and address have 32 bits.
-    fn fit_law(&self) -> bool
+    /// The own network and address have 32 bits. It is called, since only a function that reads a number knows its range.
+    fn fit_law(&self)
         ensures { ((exchange self.now.settings).asn < 2 ^ 32) × ((exchange self.now.settings).address < 2 ^ 32) }
     {
-        self.settings.own_asn() == self.settings.own_address()
+        let _ = (self.settings.own_asn(), self.settings.own_address());
     }
 }

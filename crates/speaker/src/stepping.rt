@@ -1,10 +1,11 @@
 //! The steps of one event.
 ghost use Rattle.std.specs.Prelude.{◌≡◌};
 ghost use Rattle.frame.specs.Frame.{happening};
+ghost use Rattle.frame.specs.Settings.{exchange};
 ghost use Rattle.speaker.specs.Serves.{Finishes};
-ghost use Rattle.speaker.specs.State.{Takes, state_of};
+ghost use Rattle.speaker.specs.State.{Handles, state_of};
 ghost use Rattle.speaker.specs.Texts.{AnswersTo};
-ghost use Rattle.speaker_model.specs.World.{count_of, is_tick, step_by};
+ghost use Rattle.speaker_model.specs.World.{count_of, is_tick};
 
 use crate::Speaker;
 use crate::ticking::keep_alive;
@@ -16,8 +17,8 @@ use rib::Rib;
 impl<R: Rib, O: Output> Speaker<R, O> {
     /// The event's own step.
     pub(crate) fn step(&mut self, event: Event<'_>) -> Option<TextRefusal>
-        ensures step { Takes O.Output.writes (step_by (state_of R.Rib.received self.old).exchange (state_of R.Rib.received self.old).now.received (happening event.entry) (state_of R.Rib.received self.old).sessions) (state_of R.Rib.received self.old) (state_of R.Rib.received self.new) }
-        ensures answer { AnswersTo (count_of (state_of R.Rib.received self.old).exchange) (happening event.entry) result }
+        ensures step { Handles R.Rib.received O.Output.writes (happening event.entry) self.old self.new }
+        ensures answer { AnswersTo (count_of (exchange self.old.settings)) (happening event.entry) result }
     {
         match event {
             Event::Message { peer, bytes } => {
@@ -44,7 +45,8 @@ impl<R: Rib, O: Output> Speaker<R, O> {
     pub(crate) fn finish(&mut self, event: Event<'_>)
         ensures { Finishes O.Output.writes (happening event.entry) (state_of R.Rib.received self.old) (state_of R.Rib.received self.new) }
     {
-        let _ = self.outbox.reached().outside_law();
+        // Called, since the length of a set's row is known only in its own crate.
+        self.outbox.reached().outside_law();
         self.sessions.sent_to(self.outbox.reached());
         if is_tick(event) {
             keep_alive(&mut self.outbox, &self.sessions, self.settings.peer_count());
@@ -57,11 +59,5 @@ impl<R: Rib, O: Output> Speaker<R, O> {
 fn is_tick(event: Event<'_>) -> bool
     ensures { result ≡ is_tick (happening event.entry) }
 {
-    match event {
-        Event::Tick => true,
-        Event::Message { .. } => false,
-        Event::Up { .. } => false,
-        Event::Down { .. } => false,
-        Event::PolicyText { .. } => false,
-    }
+    matches!(event, Event::Tick)
 }

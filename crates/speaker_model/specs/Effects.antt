@@ -41,10 +41,14 @@ taken_down i k = going_down i (fault_frames i k)
 abbrev pub update_effect : ℕ → Received → List ℕ → Session → Content → Effect
 update_effect i received m s c = cond (lacks_room i c m received) (taken_down i 9) (record { session = heard_now s; first = []; row = words i c m })
 
+-- a right OPEN came: the session is up, with a KEEPALIVE at once
+abbrev pub coming_up : ℕ → Session → Effect
+coming_up i s = record { session = established s; first = Carries i keepalive_bytes ∷ []; row = Establishes i ∷ [] }
+
 -- a message of peer i while its OPEN is awaited, by what is read: a fault takes the session down; a right OPEN brings it up, with a KEEPALIVE at once; a NOTIFICATION takes it down, and none goes back; anything else comes too early, fault 3
 abbrev pub awaited_effect : ℕ → Session → Reading Message → Effect
 awaited_effect i s (fault k) = taken_down i k
-awaited_effect i s (got (Opens o)) = record { session = established s; first = Carries i keepalive_bytes ∷ []; row = Establishes i ∷ [] }
+awaited_effect i s (got (Opens o)) = coming_up i s
 awaited_effect i s (got (Updates c)) = taken_down i 3
 awaited_effect i s (got (Notifies code subcode)) = going_down i (Closes i ∷ [])
 awaited_effect i s (got KeepsAlive) = taken_down i 3

@@ -1,2 +1,2 @@
 pub mod Words
-pub mod Steps
+pub mod Saying

@@ -1,24 +1,24 @@
-use Rattle.std.proofs.Common.{cond, sym, refl, ◌∙◌, arith}
+use Rattle.std.proofs.Common.{◌+◌, cond, ◌∙◌, arith}
 use Rattle.peers.specs.Members.{is_member}
-use Rattle.session.specs.Meant.{session_of}
 use Rattle.session.specs.Session.{sent_now}
-use Rattle.sessions.proofs.Rows.{one_more, untouched, all_are, stays_sent}
+use Rattle.sessions.proofs.Rows.{all_are, outside, sent_more, stays_sent}
 use Rattle.sessions.proofs.Sessions.sent_to.Goals as goal
 use Rattle.sessions.specs.Sessions.{sent_to, sessions_of}
 
-pub loop-place-preserved : goal.loop-place-preserved
-loop-place-preserved c =
-    let f = sessions_of c.args.self.now in
-    let g = sent_to (is_member c.args.peers.now) f in
-    let h = sessions_of c.loop-place.self in
-    let was = c.get-session.ensures ∙ untouched f g h c.loop-place.place c.loop-place.place refl c.loop-place.invariant in
-    one_more f g h (sessions_of c.set.new.self) c.loop-place.place c.loop-place.place (session_of c.if_sent.result) refl c.loop-place.invariant
-    (c.if_sent.ensures ∙ (λ t. cond (c.contains.ensures t) (sent_now (was t)) (was t)) ∙ sym (c.sent_law.ensures.sent c.loop-place.place))
-    c.set.ensures
+pub loop-peer-preserved : goal.loop-peer-preserved
+loop-peer-preserved c =
+    let set = is_member c.args.peers.now in
+    let h = sessions_of c.loop-peer.self in
+    let k = c.loop-peer.peer in
+    sent_more set (sessions_of c.args.self.now) h (sessions_of c.set.new.self) k _ c.loop-peer.invariant
+    (c.if_sent.ensures ∙ (λ t. cond (c.contains.ensures t) (sent_now (c.get-session.ensures t)) (c.get-session.ensures t))) c.set.ensures
 
-pub returns : goal.returns
-returns c =
+pub returns-2 : goal.returns-2
+returns-2 c =
+    let set = is_member c.args.peers.now in
     let f = sessions_of c.args.self.now in
-    all_are f (sent_to (is_member c.args.peers.now) f) (sessions_of c.loop-place.self) c.loop-place.place
-    (λ i h. let gone = c.outside_law.ensures i (omega (arith, h, c.loop-place-test.false)) in stays_sent (is_member c.args.peers.now) f i gone)
-    c.loop-place.invariant
+    let h = sessions_of c.loop-peer.self in
+    let k = c.loop-peer.peer in
+    all_are f (sent_to set f) (sessions_of c.set.new.self) (k + 1) (λ i l. stays_sent set f i (outside c.args.self.now.row i (omega (arith, l))))
+    (sent_more set f h (sessions_of c.set.new.self) k _ c.loop-peer.invariant
+    (c.if_sent.ensures ∙ (λ t. cond (c.contains.ensures t) (sent_now (c.get-session.ensures t)) (c.get-session.ensures t))) c.set.ensures)

@@ -1,4 +1,5 @@
-use Rattle.std.proofs.Common.{ℕ, [], sym, refl, ap, ◌∙◌, subst, arith}
+use Rattle.std.proofs.Common.{◌≡◌, ℕ, Result, Ok, Err, Some, MatchResult, [], sym, refl, ap, ◌∙◌, subst, arith}
+use Rattle.std.specs.Result.{result_ok}
 use Rattle.frame.specs.Settings.{exchange}
 use Rattle.model.specs.Stands as model
 use Rattle.policy_tables.specs.Meant.{content_of}
@@ -10,10 +11,14 @@ use Rattle.speaker.proofs.Starts.{rules_at_start_lem, stands_at_start}
 use Rattle.speaker.specs.State.{state_of}
 use Rattle.speaker.proofs.Speaker.new.Goals as goal
 
+at_ok : {T E : Type 0} (r : Result T E) (P : T → Type 0) (Q : E → Type 0) (x : T) → Some x ≡ result_ok r → MatchResult r P Q → P x
+at_ok (Ok y) P Q x e h = subst P (cc) h
+at_ok (Err d) P Q x e h = absurd (cc)
+
 pub returns : goal.returns
 returns g c =
-    let made = c.in-Ok.ensures in
-    let s = state_of g.R.Rib.received (record { settings = c.args.settings; sessions = c.new-2.result; server = c.in-Ok.server; outbox = c.new-3.result; spare = c.args.spare }) in
+    let made = at_ok c.new.result _ _ c.in_ok-server.server c.in_ok-server.ensures.value c.new.ensures in
+    let s = state_of g.R.Rib.received (record { settings = c.args.settings; sessions = c.new-2.result; server = c.in_ok-server.server; outbox = c.new-3.result; spare = c.args.spare }) in
     let rules = λ (own : ℕ). rules_of own (policy_for (content_of c.args.policies) Import) (policy_for (content_of c.args.policies) Export) in (
       refl,
       c.new-3.ensures.output_is,

@@ -20,8 +20,8 @@ returns g c =
     let sessions = sessions_of c.args.self.now.sessions in
     let received = g.R.Rib.received c.args.self.now.server.rib in
     let s = state_of g.R.Rib.received c.args.self.now in
-    let t = state_of g.R.Rib.received (record { settings = c.args.self.now.settings; sessions = c.set.new.self; server = c.say_words.new.server; outbox = c.say_words.new.sink; spare = c.args.self.now.spare }) in
+    let t = state_of g.R.Rib.received (record { settings = c.args.self.now.settings; sessions = c.set.new.self; server = c.say.new.server; outbox = c.say.new.sink; spare = c.args.self.now.spare }) in
     let room = ap (λ r. lacks_room i content m (g.R.Rib.received r)) (sym c.rib.ensures) ∙ sym c.if-lacks_room.ensures in
     subst (λ (e : Effect). Takes W (peer_step i e sessions) s t) (sym (cond-false (lacks_room i content m received) (taken_down i 9) (record { session = heard_now (sessions i); first = []; row = words i content m }) room))
-    (goes_by W s t (at i (heard_now (sessions i)) sessions) (words i content m) refl c.say_words.ensures.same_size
-    (λ j. c.set.ensures j ∙ ap (λ v. cond (eqb j i) v (sessions j)) (c.heard.ensures ∙ ap heard_now c.get-session.ensures)) c.say_words.ensures.promise)
+    (goes_by W s t (at i (heard_now (sessions i)) sessions) (words i content m) refl c.say.ensures.same_size
+    (λ j. c.set.ensures j ∙ ap (λ v. cond (eqb j i) v (sessions j)) (c.heard.ensures ∙ ap heard_now c.get-session.ensures)) c.say.ensures.promise)
