@@ -1,3 +1,2 @@
 pub mod Meant
 pub mod Messages
-pub mod Steps

@@ -1,6 +1,7 @@
 -- What is said of a text that is refused. Assumes nothing.
-use Rattle.std.specs.Prelude.{ℕ, Bool, true, cond, ◌&&◌, List, [], ◌∷◌, ◌++◌, length, drop, codes, decimal, nat_le, nat_lt}
+use Rattle.std.specs.Prelude.{ℕ, Bool, cond, ◌&&◌, List, [], ◌∷◌, ◌++◌, length, drop, codes, decimal, nat_le, nat_lt}
 use Rattle.std.specs.Char.{is_ascii_graphic}
+use Rattle.std.specs.List.{list_all}
 use Rattle.policy_clauses.specs.declared.Awaited as stored
 use Rattle.policy_clauses.specs.declared.Awaited.TheVariants as awaited
 use Rattle.text_tokens.specs.Tokens.{Kind, Word, Sign, Source, Ended, More, tokens}
@@ -54,9 +55,8 @@ abbrev pub found_in : List ℕ → ℕ → List ℕ
 found_in text at = first_of (tokens (drop at text))
 
 -- all bytes can be seen: each is one of 33 to 126
-unfoldable pub are_visible : List ℕ → Bool
-are_visible [] = true
-are_visible (b ∷ bs) = is_ascii_graphic b && are_visible bs
+abbrev pub are_visible : List ℕ → Bool
+are_visible bs = list_all is_ascii_graphic bs
 
 -- a word of more than 40 bytes, or with bytes that cannot be seen, is not shown
 abbrev pub is_shown : List ℕ → Bool

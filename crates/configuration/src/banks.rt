@@ -11,7 +11,6 @@ use policy::{Policy, Verdict};
 use policy_tables::{Direction, Policies};
 use route::Route;
 use std::alloc::{AllocError, Global};
-use text_tokens::Place;
 
 impl Configuration {
     /// No policies, as before the first text; all memory that texts need is taken here.
@@ -29,13 +28,8 @@ impl Configuration {
         ensures kept { OnErr result (self.new.active ≡ self.old.active) }
         ensures after { in_force self.new ≡ behind_text (meaning peers text.now) (in_force self.old) }
     {
-        if let Err(refusal) = self.spare.read(peers, text) {
-            return Err(TextRefusal {
-                at: refusal.at,
-                place: Place::of(text, refusal.at),
-                awaited: refusal.awaited,
-            });
-        }
+        let read = self.spare.read(peers, text);
+        read.map_err(|refusal| TextRefusal::of(text, refusal))?;
         std::mem::swap(&mut self.active, &mut self.spare);
         Ok(())
     }

@@ -6,7 +6,6 @@ use policy_tables::Policies;
 use text_tokens::Place;
 
 mod banks;
-mod laws;
 mod lines;
 mod messages;
 

@@ -3,10 +3,8 @@ ghost use Rattle.std.specs.Prelude.{◌≡◌, if◌then◌else◌, Some, None};
 ghost use Rattle.configuration.specs.Messages.{are_visible, found_text, is_shown, line_of, place_text, refusal_line, word_text};
 ghost use Rattle.std.specs.Option.{option_map};
 
-use crate::laws::visible_law;
 use crate::{Found, RefusalLine, TextRefusal};
 use policy_words::text_of;
-use rows::{ends, unrolls};
 use std::fmt;
 
 impl TextRefusal {
@@ -41,34 +39,25 @@ fn found_as(word: &[u8]) -> Found<'_>
     if word.is_empty() {
         return Found::End;
     }
-    match shown(word) {
-        Some(text) => Found::Word(text),
-        None => Found::Bytes,
-    }
+    shown(word).map_or(Found::Bytes, Found::Word)
 }
 
 /// The word as a text, if it has at most 40 bytes, which can all be seen.
+#[tactic(auto, using(crate::proofs::Placing::visible_ascii))]
 fn shown(word: &[u8]) -> Option<&str>
     ensures { option_map (λ x. x.now) result ≡ (if is_shown word.now then Some word.now else None) }
 {
-    let _ = visible_law();
-    if word.len() > 40 || !are_visible(word) {
-        return None;
+    if word.len() <= 40 && are_visible(word) {
+        text_of(word)
+    } else {
+        None
     }
-    text_of(word)
 }
 
 fn are_visible(word: &[u8]) -> bool
     ensures { result ≡ are_visible word.now }
 {
-    let _ = (visible_law(), ends(word));
-    for (i, byte) in word.iter().enumerate() {
-        let _ = unrolls(word, i, byte);
-        if !byte.is_ascii_graphic() {
-            return false;
-        }
-    }
-    true
+    word.iter().all(|byte| byte.is_ascii_graphic())
 }
 
 impl fmt::Display for RefusalLine<'_> {

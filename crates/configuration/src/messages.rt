@@ -1,15 +1,26 @@
 //! What the program says of a text that it refuses.
 ghost use Rattle.std.specs.Prelude.{◌≡◌};
 ghost use Rattle.configuration.specs.Messages.{awaited_text, found_in, sign_bytes};
+ghost use Rattle.text_tokens.specs.Places.{place_of};
 ghost use Rattle.fault.specs.declared.Fault.TheVariants.{PolicyText};
 
 use crate::TextRefusal;
-use crate::laws::found_law;
 use fault::Fault;
-use policy_clauses::Awaited;
-use text_tokens::{Kind, Reader, Sign};
+use policy_clauses::{Awaited, Refusal};
+use text_tokens::{Kind, Place, Reader, Sign};
 
 impl TextRefusal {
+    /// The refusal of the text, with its place.
+    pub fn of(text: &[u8], refusal: Refusal) -> TextRefusal
+        ensures { result ≡ record { at = refusal.at; place = place_of text.now refusal.at; awaited = refusal.awaited } }
+    {
+        TextRefusal {
+            at: refusal.at,
+            place: Place::of(text, refusal.at),
+            awaited: refusal.awaited,
+        }
+    }
+
     pub fn fault(&self) -> Fault
         ensures { result ≡ PolicyText }
     {
@@ -20,20 +31,15 @@ impl TextRefusal {
     pub fn found<'t>(&self, text: &'t [u8]) -> &'t [u8]
         ensures { result.now ≡ found_in text.now self.now.at }
     {
-        let _ = found_law();
-        let at = self.at;
-        if at >= text.len() {
-            return &[];
-        }
-        let token = Reader::new(&text[at..]).next();
-        match token.kind {
+        let rest = &text[self.at.min(text.len())..];
+        match Reader::new(rest).next().kind {
             Kind::Word(word) => word,
             Kind::Sign(sign) => spelled(sign),
             Kind::End => &[],
         }
     }
 
-    /// What is awaited there, in words.
+    /// What is awaited there, in words: a text that a line may keep.
     pub fn awaited_text(&self) -> &'static str
         ensures { result.now ≡ awaited_text self.now.awaited }
     {
@@ -62,6 +68,7 @@ impl TextRefusal {
     }
 }
 
+// no `Display`: what was found is told as bytes, and these outlive the text
 fn spelled(sign: Sign) -> &'static [u8]
     ensures { result.now ≡ sign_bytes sign }
 {

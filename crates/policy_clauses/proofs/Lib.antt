@@ -1,2 +1,3 @@
 pub mod Recursions
+pub mod Naming
 pub mod Unplaced

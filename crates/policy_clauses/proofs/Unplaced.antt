@@ -79,32 +79,32 @@ list_name_blind names =
 made_blind : {A B : Type 0} (p : Source → Reading A) (f : A → B) → ((s : Source) → p (unplaced s) ≡ strip (p s)) → (s : Source) → next (p (unplaced s)) (λ v rest. Got (f v) rest) ≡ strip (next (p s) (λ v rest. Got (f v) rest))
 made_blind p f e = then_blind (λ x. x) p (λ v rest. Got (f v) rest) e (λ v r. refl)
 
-range_blind : (names : List (List ℕ)) (at : ℕ) (k : RangeWord) (s : Source) → range_test names 0 k (unplaced s) ≡ strip (range_test names at k s)
-range_blind names at range.In s = made_blind (list_name names) a_test.PrefixIn (list_name_blind names) s
-range_blind names at range.Within s = made_blind (list_name names) a_test.PrefixWithin (list_name_blind names) s
-range_blind names at range.Other s = refl
+range_blind : (names : List (List ℕ)) (at : ℕ) (k : Option RangeWord) (s : Source) → range_test names 0 k (unplaced s) ≡ strip (range_test names at k s)
+range_blind names at (Some range.In) s = made_blind (list_name names) a_test.PrefixIn (list_name_blind names) s
+range_blind names at (Some range.Within) s = made_blind (list_name names) a_test.PrefixWithin (list_name_blind names) s
+range_blind names at None s = refl
 
-test_blind : (names : List (List ℕ)) (at : ℕ) (k : TestWord) (s : Source) → test_at names 0 k (unplaced s) ≡ strip (test_at names at k s)
-test_blind names at test.Not s = refl
-test_blind names at test.Any s = refl
-test_blind names at test.Range s =
+test_blind : (names : List (List ℕ)) (at : ℕ) (k : Option TestWord) (s : Source) → test_at names 0 k (unplaced s) ≡ strip (test_at names at k s)
+test_blind names at (Some test.Not) s = refl
+test_blind names at (Some test.Any) s = refl
+test_blind names at (Some test.Range) s =
     then_blind bare (word awaited.InOrWithin) (λ w rest. range_test names w.0 (range_word w.1) rest) (word_blind awaited.InOrWithin) (λ w r. range_blind names w.0 (range_word w.1) r) s
-test_blind names at test.Passes s = made_blind (number awaited.Number) a_test.Passes (number_blind awaited.Number) s
-test_blind names at test.Marked s = made_blind (number awaited.Number) a_test.HasCommunity (number_blind awaited.Number) s
-test_blind names at test.Longer s = made_blind (number awaited.Number) a_test.LongerThan (number_blind awaited.Number) s
-test_blind names at test.Other s = refl
+test_blind names at (Some test.Passes) s = made_blind (number awaited.Number) a_test.Passes (number_blind awaited.Number) s
+test_blind names at (Some test.Marked) s = made_blind (number awaited.Number) a_test.HasCommunity (number_blind awaited.Number) s
+test_blind names at (Some test.Longer) s = made_blind (number awaited.Number) a_test.LongerThan (number_blind awaited.Number) s
+test_blind names at None s = refl
 
 abbrev part_with : Bool → Test → Part
 part_with negated t = record { negated = negated; test = t }
 
-part_at_blind : (names : List (List ℕ)) (negated : Bool) (at : ℕ) (k : TestWord) (s : Source) (again again' : Reading Part) → again' ≡ strip again → part_at names negated 0 k (unplaced s) again' ≡ strip (part_at names negated at k s again)
-part_at_blind names negated at test.Not s again again' e = e
-part_at_blind names negated at test.Any s again again' e = refl
-part_at_blind names negated at test.Range s again again' e = ap (λ x. next x (λ t rest. Got (part_with negated t) rest)) (test_blind names at test.Range s) ∙ next_blind (λ x. x) (test_at names at test.Range s) (λ t rest. Got (part_with negated t) rest) (λ t r. refl)
-part_at_blind names negated at test.Passes s again again' e = ap (λ x. next x (λ t rest. Got (part_with negated t) rest)) (test_blind names at test.Passes s) ∙ next_blind (λ x. x) (test_at names at test.Passes s) (λ t rest. Got (part_with negated t) rest) (λ t r. refl)
-part_at_blind names negated at test.Marked s again again' e = ap (λ x. next x (λ t rest. Got (part_with negated t) rest)) (test_blind names at test.Marked s) ∙ next_blind (λ x. x) (test_at names at test.Marked s) (λ t rest. Got (part_with negated t) rest) (λ t r. refl)
-part_at_blind names negated at test.Longer s again again' e = ap (λ x. next x (λ t rest. Got (part_with negated t) rest)) (test_blind names at test.Longer s) ∙ next_blind (λ x. x) (test_at names at test.Longer s) (λ t rest. Got (part_with negated t) rest) (λ t r. refl)
-part_at_blind names negated at test.Other s again again' e = refl
+part_at_blind : (names : List (List ℕ)) (negated : Bool) (at : ℕ) (k : Option TestWord) (s : Source) (again again' : Reading Part) → again' ≡ strip again → part_at names negated 0 k (unplaced s) again' ≡ strip (part_at names negated at k s again)
+part_at_blind names negated at (Some test.Not) s again again' e = e
+part_at_blind names negated at (Some test.Any) s again again' e = refl
+part_at_blind names negated at (Some test.Range) s again again' e = ap (λ x. next x (λ t rest. Got (part_with negated t) rest)) (test_blind names at (Some test.Range) s) ∙ next_blind (λ x. x) (test_at names at (Some test.Range) s) (λ t rest. Got (part_with negated t) rest) (λ t r. refl)
+part_at_blind names negated at (Some test.Passes) s again again' e = ap (λ x. next x (λ t rest. Got (part_with negated t) rest)) (test_blind names at (Some test.Passes) s) ∙ next_blind (λ x. x) (test_at names at (Some test.Passes) s) (λ t rest. Got (part_with negated t) rest) (λ t r. refl)
+part_at_blind names negated at (Some test.Marked) s again again' e = ap (λ x. next x (λ t rest. Got (part_with negated t) rest)) (test_blind names at (Some test.Marked) s) ∙ next_blind (λ x. x) (test_at names at (Some test.Marked) s) (λ t rest. Got (part_with negated t) rest) (λ t r. refl)
+part_at_blind names negated at (Some test.Longer) s again again' e = ap (λ x. next x (λ t rest. Got (part_with negated t) rest)) (test_blind names at (Some test.Longer) s) ∙ next_blind (λ x. x) (test_at names at (Some test.Longer) s) (λ t rest. Got (part_with negated t) rest) (λ t r. refl)
+part_at_blind names negated at None s again again' e = refl
 
 part_blind : (names : List (List ℕ)) (negated : Bool) (s : Source) → part names negated (unplaced s) ≡ strip (part names negated s)
 unfolding part unplaced
@@ -113,10 +113,10 @@ part_blind names negated (More t rest) =
     on_word_blind (λ x. x) awaited.Test t.at t.fresh t.kind (λ w. part_at names negated 0 (test_word w) (unplaced rest) (part names (not negated) (unplaced rest))) (λ w. part_at names negated t.at (test_word w) rest (part names (not negated) rest))
     (λ w. part_at_blind names negated t.at (test_word w) rest (part names (not negated) rest) (part names (not negated) (unplaced rest)) (part_blind names (not negated) rest))
 
-joined_blind : (at : ℕ) (w : JointWord) (ps : List Part) (r : Source) (x y : Reading (List Part)) → x ≡ strip y → joined 0 w ps (unplaced r) x ≡ strip (joined at w ps r y)
-joined_blind at joint.And ps r x y e = e
-joined_blind at joint.Then ps r x y e = refl
-joined_blind at joint.Other ps r x y e = refl
+joined_blind : (at : ℕ) (w : Option JointWord) (ps : List Part) (r : Source) (x y : Reading (List Part)) → x ≡ strip y → joined 0 w ps (unplaced r) x ≡ strip (joined at w ps r y)
+joined_blind at (Some joint.And) ps r x y e = e
+joined_blind at (Some joint.Then) ps r x y e = refl
+joined_blind at None ps r x y e = refl
 
 parts_blind : (k : ℕ) (names : List (List ℕ)) (b : List Part) (s : Source) → parts k names b (unplaced s) ≡ strip (parts k names b s)
 unfolding parts
@@ -144,16 +144,16 @@ times_blind =
     then_blind bare (word awaited.Times) (λ w rest. cond (bytes_eq w.1 (codes "times")) (next (word awaited.Count rest) counted) (Stop w.0 awaited.Times)) (word_blind awaited.Times)
     (λ w r. cond_blind (bytes_eq w.1 (codes "times")) (next (word awaited.Count (unplaced r)) counted) (next (word awaited.Count r) counted) (Stop 0 awaited.Times) (Stop w.0 awaited.Times) (then_blind bare (word awaited.Count) counted (word_blind awaited.Count) counted_blind r) refl)
 
-action_at_blind : (at : ℕ) (k : ActionWord) (s : Source) → action_at 0 k (unplaced s) ≡ strip (action_at at k s)
-action_at_blind at action.Take s = refl
-action_at_blind at action.Leave s = refl
-action_at_blind at action.Like s = made_blind (number awaited.Number) an_action.SetLocalPref (number_blind awaited.Number) s
-action_at_blind at action.Far s = made_blind (number awaited.Number) an_action.SetMed (number_blind awaited.Number) s
-action_at_blind at action.Mark s = made_blind (number awaited.Number) an_action.AddCommunity (number_blind awaited.Number) s
-action_at_blind at action.Unmark s = made_blind (number awaited.Number) an_action.RemoveCommunity (number_blind awaited.Number) s
-action_at_blind at action.Front s =
+action_at_blind : (at : ℕ) (k : Option ActionWord) (s : Source) → action_at 0 k (unplaced s) ≡ strip (action_at at k s)
+action_at_blind at (Some action.Take) s = refl
+action_at_blind at (Some action.Leave) s = refl
+action_at_blind at (Some action.Like) s = made_blind (number awaited.Number) an_action.SetLocalPref (number_blind awaited.Number) s
+action_at_blind at (Some action.Far) s = made_blind (number awaited.Number) an_action.SetMed (number_blind awaited.Number) s
+action_at_blind at (Some action.Mark) s = made_blind (number awaited.Number) an_action.AddCommunity (number_blind awaited.Number) s
+action_at_blind at (Some action.Unmark) s = made_blind (number awaited.Number) an_action.RemoveCommunity (number_blind awaited.Number) s
+action_at_blind at (Some action.Front) s =
     then_blind (λ x. x) (number awaited.Number) (λ n rest. next (times rest) (λ k rest₂. Got (an_action.Prepend n k) rest₂)) (number_blind awaited.Number) (λ n r. made_blind times (an_action.Prepend n) times_blind r) s
-action_at_blind at action.Other s = refl
+action_at_blind at None s = refl
 
 action_blind : (s : Source) → action_of (unplaced s) ≡ strip (action_of s)
 action_blind = then_blind bare (word awaited.Action) (λ w rest. action_at w.0 (action_word w.1) rest) (word_blind awaited.Action) (λ w r. action_at_blind w.0 (action_word w.1) r)

@@ -1,3 +1,3 @@
 pub mod Reading
 pub mod Meant
-pub mod Steps
+pub mod Sizes

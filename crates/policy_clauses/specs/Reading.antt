@@ -1,5 +1,5 @@
 -- The grammar of clauses, over the tokens of a text. Assumes nothing.
-use Rattle.std.specs.Prelude.{ℕ, zero, suc, ◌+◌, Bool, false, cond, not, List, [], ◌∷◌, ◌++◌, Some, None, codes, Option, nat_le}
+use Rattle.std.specs.Prelude.{ℕ, zero, suc, Bool, false, cond, not, List, [], ◌∷◌, ◌++◌, Some, None, codes, Option, nat_le}
 use Rattle.policy.specs.declared.Action.{Action}
 use Rattle.policy.specs.declared.Action.TheVariants as an_action
 use Rattle.policy.specs.declared.Part.{Part}
@@ -14,6 +14,7 @@ use Rattle.policy_words.specs.declared.RangeWord.TheVariants as range
 use Rattle.policy_words.specs.declared.TestWord.{TestWord}
 use Rattle.policy_words.specs.declared.TestWord.TheVariants as test
 use Rattle.policy_words.specs.Words.{action_word, is_ascii, joint_word, number_of, range_word, test_word}
+use Rattle.std.specs.List.{position_from}
 use Rattle.std.specs.Str.{bytes_eq}
 use Rattle.text_tokens.specs.Tokens.{Kind, Word, Sign, Token, Source, Ended, More}
 use Rattle.policy_clauses.specs.declared.Awaited as stored
@@ -53,9 +54,8 @@ abbrev pub number : stored.Awaited → Source → Reading ℕ
 number a s = next (word a s) (λ w rest. or_stop (number_of w.1) (λ n. Got n rest) (Stop w.0 a))
 
 -- the place of the name among the names, the first being i
-unfoldable pub index_from : ℕ → List ℕ → List (List ℕ) → Option ℕ
-index_from i name [] = None
-index_from i name (other ∷ others) = cond (bytes_eq name other) (Some i) (index_from (i + 1) name others)
+abbrev pub index_from : ℕ → List ℕ → List (List ℕ) → Option ℕ
+index_from i name names = position_from (λ other. bytes_eq name other) i names
 
 abbrev pub index_of : List ℕ → List (List ℕ) → Option ℕ
 index_of name names = index_from 0 name names
@@ -64,30 +64,34 @@ index_of name names = index_from 0 name names
 abbrev pub list_name : List (List ℕ) → Source → Reading ℕ
 list_name names s = next (word awaited.ListName s) (λ w rest. or_stop (index_of w.1 names) (λ i. Got i rest) (Stop w.0 awaited.ListName))
 
-abbrev pub range_test : List (List ℕ) → ℕ → RangeWord → Source → Reading Test
-range_test names at range.In s = next (list_name names s) (λ i rest. Got (a_test.PrefixIn i) rest)
-range_test names at range.Within s = next (list_name names s) (λ i rest. Got (a_test.PrefixWithin i) rest)
-range_test names at range.Other s = Stop at awaited.InOrWithin
+abbrev pub range_test : List (List ℕ) → ℕ → Option RangeWord → Source → Reading Test
+range_test names at (Some range.In) s = next (list_name names s) (λ i rest. Got (a_test.PrefixIn i) rest)
+range_test names at (Some range.Within) s = next (list_name names s) (λ i rest. Got (a_test.PrefixWithin i) rest)
+range_test names at None s = Stop at awaited.InOrWithin
+
+-- a test of the prefix, behind `range`
+abbrev pub range_of : List (List ℕ) → Source → Reading Test
+range_of names s = next (word awaited.InOrWithin s) (λ w rest. range_test names w.0 (range_word w.1) rest)
 
 -- a test, behind its first word
-abbrev pub test_at : List (List ℕ) → ℕ → TestWord → Source → Reading Test
-test_at names at test.Not s = Stop at awaited.Test
-test_at names at test.Any s = Got a_test.Any s
-test_at names at test.Range s = next (word awaited.InOrWithin s) (λ w rest. range_test names w.0 (range_word w.1) rest)
-test_at names at test.Passes s = next (number awaited.Number s) (λ n rest. Got (a_test.Passes n) rest)
-test_at names at test.Marked s = next (number awaited.Number s) (λ n rest. Got (a_test.HasCommunity n) rest)
-test_at names at test.Longer s = next (number awaited.Number s) (λ n rest. Got (a_test.LongerThan n) rest)
-test_at names at test.Other s = Stop at awaited.Test
+abbrev pub test_at : List (List ℕ) → ℕ → Option TestWord → Source → Reading Test
+test_at names at (Some test.Not) s = Stop at awaited.Test
+test_at names at (Some test.Any) s = Got a_test.Any s
+test_at names at (Some test.Range) s = range_of names s
+test_at names at (Some test.Passes) s = next (number awaited.Number s) (λ n rest. Got (a_test.Passes n) rest)
+test_at names at (Some test.Marked) s = next (number awaited.Number s) (λ n rest. Got (a_test.HasCommunity n) rest)
+test_at names at (Some test.Longer) s = next (number awaited.Number s) (λ n rest. Got (a_test.LongerThan n) rest)
+test_at names at None s = Stop at awaited.Test
 
 -- a part, negated or not so far, behind its first word; again: the part behind one `not` more
-abbrev pub part_at : List (List ℕ) → Bool → ℕ → TestWord → Source → Reading Part → Reading Part
-part_at names negated at test.Not s again = again
-part_at names negated at test.Any s again = next (test_at names at test.Any s) (λ t rest. Got (record { negated = negated; test = t }) rest)
-part_at names negated at test.Range s again = next (test_at names at test.Range s) (λ t rest. Got (record { negated = negated; test = t }) rest)
-part_at names negated at test.Passes s again = next (test_at names at test.Passes s) (λ t rest. Got (record { negated = negated; test = t }) rest)
-part_at names negated at test.Marked s again = next (test_at names at test.Marked s) (λ t rest. Got (record { negated = negated; test = t }) rest)
-part_at names negated at test.Longer s again = next (test_at names at test.Longer s) (λ t rest. Got (record { negated = negated; test = t }) rest)
-part_at names negated at test.Other s again = Stop at awaited.Test
+abbrev pub part_at : List (List ℕ) → Bool → ℕ → Option TestWord → Source → Reading Part → Reading Part
+part_at names negated at (Some test.Not) s again = again
+part_at names negated at (Some test.Any) s again = next (test_at names at (Some test.Any) s) (λ t rest. Got (record { negated = negated; test = t }) rest)
+part_at names negated at (Some test.Range) s again = next (test_at names at (Some test.Range) s) (λ t rest. Got (record { negated = negated; test = t }) rest)
+part_at names negated at (Some test.Passes) s again = next (test_at names at (Some test.Passes) s) (λ t rest. Got (record { negated = negated; test = t }) rest)
+part_at names negated at (Some test.Marked) s again = next (test_at names at (Some test.Marked) s) (λ t rest. Got (record { negated = negated; test = t }) rest)
+part_at names negated at (Some test.Longer) s again = next (test_at names at (Some test.Longer) s) (λ t rest. Got (record { negated = negated; test = t }) rest)
+part_at names negated at None s again = Stop at awaited.Test
 
 -- any number of `not` and a test
 unfoldable pub part : List (List ℕ) → Bool → Source → Reading Part
@@ -95,10 +99,10 @@ part names negated (Ended at) = Stop at awaited.Test
 part names negated (More t rest) = on_word awaited.Test t (λ w. part_at names negated t.at (test_word w) rest (part names (not negated) rest))
 
 -- what stands behind a part: with `and` the parts go on, with `then` they are all
-abbrev pub joined : ℕ → JointWord → List Part → Source → Reading (List Part) → Reading (List Part)
-joined at joint.And parts rest more = more
-joined at joint.Then parts rest more = Got parts rest
-joined at joint.Other parts rest more = Stop at awaited.AndOrThen
+abbrev pub joined : ℕ → Option JointWord → List Part → Source → Reading (List Part) → Reading (List Part)
+joined at (Some joint.And) parts rest more = more
+joined at (Some joint.Then) parts rest more = Got parts rest
+joined at None parts rest more = Stop at awaited.AndOrThen
 
 -- the parts of a condition, after those before; k more than the next one may come
 unfoldable pub parts : ℕ → List (List ℕ) → List Part → Source → Reading (List Part)
@@ -124,15 +128,15 @@ times s =
     (Stop w.0 awaited.Times))
 
 -- an action, behind its first word
-abbrev pub action_at : ℕ → ActionWord → Source → Reading Action
-action_at at action.Take s = Got an_action.Accept s
-action_at at action.Leave s = Got an_action.Reject s
-action_at at action.Like s = next (number awaited.Number s) (λ n rest. Got (an_action.SetLocalPref n) rest)
-action_at at action.Far s = next (number awaited.Number s) (λ n rest. Got (an_action.SetMed n) rest)
-action_at at action.Mark s = next (number awaited.Number s) (λ n rest. Got (an_action.AddCommunity n) rest)
-action_at at action.Unmark s = next (number awaited.Number s) (λ n rest. Got (an_action.RemoveCommunity n) rest)
-action_at at action.Front s = next (number awaited.Number s) (λ n rest. next (times rest) (λ k rest₂. Got (an_action.Prepend n k) rest₂))
-action_at at action.Other s = Stop at awaited.Action
+abbrev pub action_at : ℕ → Option ActionWord → Source → Reading Action
+action_at at (Some action.Take) s = Got an_action.Accept s
+action_at at (Some action.Leave) s = Got an_action.Reject s
+action_at at (Some action.Like) s = next (number awaited.Number s) (λ n rest. Got (an_action.SetLocalPref n) rest)
+action_at at (Some action.Far) s = next (number awaited.Number s) (λ n rest. Got (an_action.SetMed n) rest)
+action_at at (Some action.Mark) s = next (number awaited.Number s) (λ n rest. Got (an_action.AddCommunity n) rest)
+action_at at (Some action.Unmark) s = next (number awaited.Number s) (λ n rest. Got (an_action.RemoveCommunity n) rest)
+action_at at (Some action.Front) s = next (number awaited.Number s) (λ n rest. next (times rest) (λ k rest₂. Got (an_action.Prepend n k) rest₂))
+action_at at None s = Stop at awaited.Action
 
 abbrev pub action_of : Source → Reading Action
 action_of s = next (word awaited.Action s) (λ w rest. action_at w.0 (action_word w.1) rest)

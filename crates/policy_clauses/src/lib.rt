@@ -5,7 +5,7 @@ ghost use Rattle.std.specs.Prelude.{◌≤◌};
 
 mod actions;
 mod conditions;
-mod laws;
+mod refusals;
 mod scopes;
 mod words;
 

@@ -1,12 +1,11 @@
 //! The names of the lists so far.
-ghost use Rattle.std.specs.Prelude.{◌≡◌, ◌≤◌, [], ◌∷◌, ◌++◌, map, length, if◌then◌else◌, nat_lt};
+ghost use Rattle.std.specs.Prelude.{◌≡◌, ◌<◌, ◌≤◌, IfSome, [], ◌∷◌, ◌++◌, map, length, if◌then◌else◌, nat_lt};
 ghost use Rattle.policy_clauses.specs.Meant.{names_of};
 ghost use Rattle.policy_clauses.specs.Reading.{index_of};
+ghost use Rattle.std.specs.List.{position_from};
+ghost use Rattle.std.specs.Str.{bytes_eq};
 
 use crate::Names;
-use crate::laws::{name_law, row_law};
-use policy_words::is_same;
-use rows::{ends, fills, unrolls};
 
 impl<'a> Names<'a> {
     /// No names.
@@ -19,13 +18,14 @@ impl<'a> Names<'a> {
         }
     }
 
+    // the memory stays as it is until crate rows has a row of any type
     /// One name more; false, and all is left as it is, where there are 64.
+    #[tactic(auto, using(crate::proofs::Naming::one_more, crate::proofs::Naming::so_many))]
     pub fn push(&mut self, name: &'a [u8]) -> bool
         ensures fits { result ≡ nat_lt (length (names_of self.old)) 64 }
         ensures after { names_of self.new ≡ (if result then names_of self.old ++ (name.now ∷ []) else names_of self.old) }
     {
         let count = self.count;
-        let _ = (fills(&self.words, count, &name), row_law());
         if count == 64 {
             return false;
         }
@@ -43,16 +43,18 @@ impl<'a> Names<'a> {
     }
 }
 
+#[tactic(auto, using(crate::proofs::Naming::meant_place))]
 fn index_of(name: &[u8], names: &[&[u8]]) -> Option<u8>
     requires { length names.now ≤ 64 }
     ensures { result ≡ index_of name.now (map (λ x. x.now) names.now) }
 {
-    let _ = (name_law(), ends(names));
-    for (i, other) in names.iter().enumerate() {
-        let _ = unrolls(names, i, other);
-        if is_same(name, other) {
-            return Some(i as u8);
-        }
-    }
-    None
+    let place = place_of(name, names)?;
+    Some(place as u8)
+}
+
+fn place_of(name: &[u8], names: &[&[u8]]) -> Option<usize>
+    ensures value { result ≡ position_from (λ x. bytes_eq name.now x.now) 0 names.now }
+    ensures bound { IfSome result (λ place. place < length names.now) }
+{
+    names.iter().position(|other| name == *other)
 }

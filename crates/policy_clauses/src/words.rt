@@ -13,17 +13,15 @@ pub fn word<'a>(reader: &mut Reader<'a>, awaited: Awaited) -> Result<Spelled<'a>
     ensures { Reads spelled_of (word awaited) (left reader.old) (left reader.new) result }
 {
     let token = reader.next();
-    let at = token.at;
+    let refusal = Refusal::new(token.at, awaited);
     if token.fresh {
-        return Err(Refusal { at, awaited });
+        return Err(refusal);
     }
     let Kind::Word(bytes) = token.kind else {
-        return Err(Refusal { at, awaited });
+        return Err(refusal);
     };
-    let Some(text) = text_of(bytes) else {
-        return Err(Refusal { at, awaited });
-    };
-    Ok(Spelled { at, text })
+    let text = text_of(bytes).ok_or(refusal)?;
+    Ok(Spelled { at: token.at, text })
 }
 
 /// The next word, which must be a number.
@@ -31,11 +29,5 @@ pub fn number(reader: &mut Reader<'_>, awaited: Awaited) -> Result<u32, Refusal>
     ensures { Reads as_is (number awaited) (left reader.old) (left reader.new) result }
 {
     let word = word(reader, awaited)?;
-    let Some(number) = number_of(word.text.as_bytes()) else {
-        return Err(Refusal {
-            at: word.at,
-            awaited,
-        });
-    };
-    Ok(number)
+    number_of(word.text.as_bytes()).ok_or(Refusal::new(word.at, awaited))
 }

@@ -78,10 +78,10 @@ module _ {A X : Type 0} (e n : ℕ) where
   after_next (Got v r) step h = h v r
   after_next (Stop at a) step h = λ more other xs rest g. no_got g
 
-after_joint : (n at : ℕ) (w : JointWord) (b : List Part) (r : Source) → length b ≡ n + 1 → Uniform Part 1 n (λ more. joined at w b r (more b at r))
-after_joint n at joint.And b r l = λ more other xs rest g. inr (b, (at, (r, (l, (g, refl)))))
-after_joint n at joint.Then b r l = λ more other xs rest g. let same : b ≡ xs = cc in inl (g, sym (ap length same) ∙ l)
-after_joint n at joint.Other b r l = λ more other xs rest g. no_got g
+after_joint : (n at : ℕ) (w : Option JointWord) (b : List Part) (r : Source) → length b ≡ n + 1 → Uniform Part 1 n (λ more. joined at w b r (more b at r))
+after_joint n at (Some joint.And) b r l = λ more other xs rest g. inr (b, (at, (r, (l, (g, refl)))))
+after_joint n at (Some joint.Then) b r l = λ more other xs rest g. let same : b ≡ xs = cc in inl (g, sym (ap length same) ∙ l)
+after_joint n at None b r l = λ more other xs rest g. no_got g
 
 after_comma : (n : ℕ) (c : Option (ℕ × Source)) (b : List Prefix) (r : Source) → length b ≡ n + 1 → Uniform Prefix 1 n (λ more. listed c b r (λ at r₂. more b at r₂))
 after_comma n None b r l = λ more other xs rest g. let same : b ≡ xs = cc in inl (g, sym (ap length same) ∙ l)
@@ -118,11 +118,11 @@ unfolding prefixes prefix_step
 prefixes_exact n s ps rest h = exact 1 awaited.ListEnd prefix_step prefixes (λ b r. refl) (λ k b r. refl) prefix_uniform n 63 [] s ps rest h
 
 -- a token that lets reading go on ends the policy or begins a clause, whatever is then read
-taken : (P : Reading (List Written) → Type 0) (start : Start) (may : Bool) (at : ℕ) (b : List Written) (r : Source) (more other : Reading (List Written)) (xs : List Written) (rest : Source) → (◌≡◌ {A = Reading (List Written)} (Got b r) (Got xs rest) → P (Got b r)) → (more ≡ Got xs rest → P other) → started start may at b r more ≡ Got xs rest → P (started start may at b r other)
-taken P a_start.Clause true at b r more other xs rest ends goes g = goes g
-taken P a_start.Clause false at b r more other xs rest ends goes g = no_got g
-taken P a_start.Close may at b r more other xs rest ends goes g = ends g
-taken P a_start.Other may at b r more other xs rest ends goes g = no_got g
+taken : (P : Reading (List Written) → Type 0) (start : Option Start) (may : Bool) (at : ℕ) (b : List Written) (r : Source) (more other : Reading (List Written)) (xs : List Written) (rest : Source) → (◌≡◌ {A = Reading (List Written)} (Got b r) (Got xs rest) → P (Got b r)) → (more ≡ Got xs rest → P other) → started start may at b r more ≡ Got xs rest → P (started start may at b r other)
+taken P (Some a_start.Clause) true at b r more other xs rest ends goes g = goes g
+taken P (Some a_start.Clause) false at b r more other xs rest ends goes g = no_got g
+taken P (Some a_start.Close) may at b r more other xs rest ends goes g = ends g
+taken P None may at b r more other xs rest ends goes g = no_got g
 
 -- a clause that was read, and what was read behind it
 behind : {A B : Type 0} (P : Reading B → Type 0) (x : Reading A) (f g : A → Source → Reading B) (y : B) (rest : Source) → ((v : A) (r : Source) → f v r ≡ Got y rest → P (g v r)) → next x f ≡ Got y rest → P (next x g)

@@ -65,10 +65,10 @@ list_head_blind names =
     (λ w r. cond_blind (is_name w.1 && not (is_some (index_of w.1 names))) (next (equals (unplaced r)) (λ _ rest₂. Got w.1 rest₂)) (next (equals r) (λ _ rest₂. Got w.1 rest₂)) (Stop 0 awaited.NewName) (Stop w.0 awaited.NewName)
     (then_blind (λ x. x) equals (λ _ rest₂. Got w.1 rest₂) equals_blind (λ v r₂. refl) r) refl)
 
-started_blind : (start : Start) (may : Bool) (at : ℕ) (b : List Written) (r : Source) (x y : Reading (List Written)) → x ≡ strip y → started start may 0 b (unplaced r) x ≡ strip (started start may at b r y)
-started_blind a_start.Clause may at b r x y e = cond_blind may x y (Stop 0 awaited.Clause) (Stop at awaited.Clause) e refl
-started_blind a_start.Close may at b r x y e = refl
-started_blind a_start.Other may at b r x y e = refl
+started_blind : (start : Option Start) (may : Bool) (at : ℕ) (b : List Written) (r : Source) (x y : Reading (List Written)) → x ≡ strip y → started start may 0 b (unplaced r) x ≡ strip (started start may at b r y)
+started_blind (Some a_start.Clause) may at b r x y e = cond_blind may x y (Stop 0 awaited.Clause) (Stop at awaited.Clause) e refl
+started_blind (Some a_start.Close) may at b r x y e = refl
+started_blind None may at b r x y e = refl
 
 pub clauses_blind : (k : ℕ) (names : List (List ℕ)) (first : Bool) (b : List Written) (s : Source) → clauses k names first b (unplaced s) ≡ strip (clauses k names first b s)
 unfolding clauses unplaced

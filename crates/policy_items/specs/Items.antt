@@ -47,12 +47,12 @@ comma (Ended at) = None
 comma (More t rest) = cond t.fresh None (cond (is_comma t.kind) (Some (t.at, rest)) None)
 
 -- what a token begins within a policy: `if` a clause, and `}` ends the policy
-abbrev pub start_of : Kind → stored_start.Start
-start_of (Word w) = cond (bytes_eq w (codes "if")) a_start.Clause a_start.Other
-start_of (Sign a_sign.Open) = a_start.Other
-start_of (Sign a_sign.Close) = a_start.Close
-start_of (Sign a_sign.Equals) = a_start.Other
-start_of (Sign a_sign.Comma) = a_start.Other
+abbrev pub start_of : Kind → Option stored_start.Start
+start_of (Word w) = cond (bytes_eq w (codes "if")) (Some a_start.Clause) None
+start_of (Sign a_sign.Open) = None
+start_of (Sign a_sign.Close) = Some a_start.Close
+start_of (Sign a_sign.Equals) = None
+start_of (Sign a_sign.Comma) = None
 
 -- a prefix on the same line
 abbrev pub prefix : Source → Reading Prefix
@@ -81,10 +81,10 @@ list_head names s =
     (Stop w.0 awaited.NewName))
 
 -- behind the token at the offset: a clause, or the end of the policy; a clause is the first of its policy or the first on its line
-abbrev pub started : stored_start.Start → Bool → ℕ → List Written → Source → Reading (List Written) → Reading (List Written)
-started a_start.Clause may at before rest more = cond may more (Stop at awaited.Clause)
-started a_start.Close may at before rest more = Got before rest
-started a_start.Other may at before rest more = Stop at awaited.Clause
+abbrev pub started : Option stored_start.Start → Bool → ℕ → List Written → Source → Reading (List Written) → Reading (List Written)
+started (Some a_start.Clause) may at before rest more = cond may more (Stop at awaited.Clause)
+started (Some a_start.Close) may at before rest more = Got before rest
+started None may at before rest more = Stop at awaited.Clause
 
 -- the clauses of a policy, after those before, and `}`; k more may come
 unfoldable pub clauses : ℕ → List (List ℕ) → Bool → List Written → Source → Reading (List Written)

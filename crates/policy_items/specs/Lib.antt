@@ -1,4 +1,3 @@
 pub mod Items
 pub mod Meant
-pub mod Steps
 pub mod Limits

@@ -6,7 +6,6 @@ ghost use Rattle.policy_items.specs.Items.{list_head, prefix, prefix_list};
 ghost use Rattle.prefix.specs.Meant.{meant};
 ghost use Rattle.text_tokens.specs.Meant.{left};
 
-use crate::laws::prefix_law;
 use crate::signs::{comma, equals};
 use policy::PrefixList;
 use policy_clauses::{Awaited, Names, Refusal, word};
@@ -21,35 +20,27 @@ pub fn list_head<'a>(reader: &mut Reader<'a>, names: &Names<'_>) -> Result<&'a [
     let word = word(reader, Awaited::NewName)?;
     let name = word.text.as_bytes();
     if !is_name(name) || names.number(name).is_some() {
-        return Err(Refusal {
-            at: word.at,
-            awaited: Awaited::NewName,
-        });
+        return Err(Refusal::new(word.at, Awaited::NewName));
     }
     equals(reader)?;
     Ok(name)
 }
 
 /// The prefixes of a list.
+#[tactic(auto, using(crate::proofs::Recursions::prefixes_step, crate::proofs::Recursions::listed_more, std::proofs::lemmas::List::length_push, std::proofs::lemmas::Grind::common_steps))]
 pub fn prefix_list(reader: &mut Reader<'_>) -> Result<PrefixList, Refusal>
     ensures { Reads prefixes_of prefix_list (left reader.old) (left reader.new) result }
 {
-    let _ = prefix_law();
     let mut list = PrefixList::new();
-    let mut more: usize = 63;
     loop {
         let prefix = prefix(reader)?;
         let _ = list.push(prefix);
         let Some(at) = comma(reader) else {
             return Ok(list);
         };
-        if more == 0 {
-            return Err(Refusal {
-                at,
-                awaited: Awaited::ListEnd,
-            });
+        if list.as_slice().len() >= 64 {
+            return Err(Refusal::new(at, Awaited::ListEnd));
         }
-        more -= 1;
     }
 }
 
@@ -57,11 +48,5 @@ fn prefix(reader: &mut Reader<'_>) -> Result<Prefix, Refusal>
     ensures { Reads meant prefix (left reader.old) (left reader.new) result }
 {
     let word = word(reader, Awaited::Prefix)?;
-    let Some(prefix) = prefix_of(word.text.as_bytes()) else {
-        return Err(Refusal {
-            at: word.at,
-            awaited: Awaited::Prefix,
-        });
-    };
-    Ok(prefix)
+    prefix_of(word.text.as_bytes()).ok_or(Refusal::new(word.at, Awaited::Prefix))
 }

@@ -1,12 +1,11 @@
 //! The clauses of all policies of a text.
-ghost use Rattle.std.specs.Prelude.{◌≡◌, ◌-◌, ◌≤◌, min, true, [], map, length, take, drop, IfOk, Err};
+ghost use Rattle.std.specs.Prelude.{◌≡◌, ◌-◌, ◌≤◌, min, true, [], map, length, take, drop, IfOk};
 ghost use Rattle.policy_clauses.specs.Meant.{Reads, names_of, written_of};
 ghost use Rattle.policy_items.specs.Items.{clauses};
 ghost use Rattle.policy_items.specs.Meant.{stored};
 ghost use Rattle.text_tokens.specs.Meant.{left};
 
 use crate::Pool;
-use crate::laws::{clause_law, pool_law};
 use crate::signs::{Start, start_of};
 use policy::Clause;
 use policy_clauses::{Awaited, Names, Refusal, clause};
@@ -43,36 +42,26 @@ impl Pool {
     }
 
     /// Reads the clauses of a policy, up to its `}`, and puts them behind those of the pool.
+    #[tactic(auto, using(crate::proofs::Recursions::clauses_step, crate::proofs::Recursions::no_more, crate::proofs::Recursions::behind, std::proofs::lemmas::Grind::common_steps))]
     pub fn read(&mut self, reader: &mut Reader<'_>, names: &Names<'_>) -> Result<(), Refusal>
         ensures new { Reads (λ _. map written_of (drop (length (stored self.old)) (stored self.new))) (clauses (min 256 (4096 - length (stored self.old))) (names_of names.now) true []) (left reader.old) (left reader.new) result }
         ensures old { take (length (stored self.old)) (stored self.new) ≡ stored self.old }
     {
-        let _ = (clause_law(), pool_law());
-        let mut more = 256.min(4096 - self.clauses.len().min(4096));
-        let mut first = true;
+        let start = self.clauses.len();
+        let most = start.saturating_add(256).min(4096);
         loop {
             let token = reader.next();
+            let first = self.clauses.len() == start;
             match start_of(token.kind) {
-                Start::Close => return Ok(()),
-                Start::Other => return refused(token.at, Awaited::Clause),
-                Start::Clause => {}
+                Some(Start::Close) => return Ok(()),
+                Some(Start::Clause) if first || token.fresh => {}
+                _ => return Err(Refusal::new(token.at, Awaited::Clause)),
             }
-            if !first && !token.fresh {
-                return refused(token.at, Awaited::Clause);
-            }
-            if more == 0 {
-                return refused(token.at, Awaited::Close);
+            if self.clauses.len() >= most {
+                return Err(Refusal::new(token.at, Awaited::Close));
             }
             let clause = clause(reader, names)?;
             self.clauses.push_reserved(clause);
-            more -= 1;
-            first = false;
         }
     }
-}
-
-fn refused(at: usize, awaited: Awaited) -> Result<(), Refusal>
-    ensures { result ≡ Err (record { at = at; awaited = awaited }) }
-{
-    Err(Refusal { at, awaited })
 }

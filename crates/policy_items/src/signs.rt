@@ -6,7 +6,6 @@ ghost use Rattle.policy_items.specs.Meant.{start_with};
 ghost use Rattle.text_tokens.specs.Meant.{left};
 
 use policy_clauses::{Awaited, Refusal};
-use policy_words::is_same;
 use text_tokens::{Kind, Reader, Sign};
 
 /// `=` on the same line.
@@ -14,14 +13,9 @@ pub(crate) fn equals(reader: &mut Reader<'_>) -> Result<(), Refusal>
     ensures { Reads as_is equals (left reader.old) (left reader.new) result }
 {
     let token = reader.next();
-    let at = token.at;
-    let awaited = Awaited::Equals;
-    if token.fresh {
-        return Err(Refusal { at, awaited });
-    }
     match token.kind {
-        Kind::Sign(Sign::Equals) => Ok(()),
-        _ => Err(Refusal { at, awaited }),
+        Kind::Sign(Sign::Equals) if !token.fresh => Ok(()),
+        _ => Err(Refusal::new(token.at, Awaited::Equals)),
     }
 }
 
@@ -32,10 +26,7 @@ pub fn open(reader: &mut Reader<'_>) -> Result<(), Refusal>
     let token = reader.next();
     match token.kind {
         Kind::Sign(Sign::Open) => Ok(()),
-        _ => Err(Refusal {
-            at: token.at,
-            awaited: Awaited::Open,
-        }),
+        _ => Err(Refusal::new(token.at, Awaited::Open)),
     }
 }
 
@@ -45,11 +36,8 @@ pub(crate) fn comma(reader: &mut Reader<'_>) -> Option<usize>
 {
     let mut ahead = *reader;
     let token = ahead.next();
-    if token.fresh {
-        return None;
-    }
     match token.kind {
-        Kind::Sign(Sign::Comma) => {
+        Kind::Sign(Sign::Comma) if !token.fresh => {
             *reader = ahead;
             Some(token.at)
         }
@@ -57,26 +45,19 @@ pub(crate) fn comma(reader: &mut Reader<'_>) -> Option<usize>
     }
 }
 
-/// What a token begins within a policy.
+/// What a token can begin within a policy.
 #[derive(Clone, Copy)]
 pub(crate) enum Start {
     Clause,
     Close,
-    Other,
 }
 
-pub(crate) fn start_of(kind: Kind<'_>) -> Start
+pub(crate) fn start_of(kind: Kind<'_>) -> Option<Start>
     ensures { result ≡ start_with kind.entry }
 {
     match kind {
-        Kind::Word(word) => {
-            if is_same(word, b"if") {
-                Start::Clause
-            } else {
-                Start::Other
-            }
-        }
-        Kind::Sign(Sign::Close) => Start::Close,
-        _ => Start::Other,
+        Kind::Word(b"if") => Some(Start::Clause),
+        Kind::Sign(Sign::Close) => Some(Start::Close),
+        _ => None,
     }
 }

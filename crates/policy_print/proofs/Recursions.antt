@@ -1,31 +1,44 @@
 -- The steps of the recursions. Assumes nothing.
-use Rattle.std.proofs.Common.{ℕ, refl, ap, append_assoc, append-nil, add-one}
+use Rattle.std.proofs.Common.{◌≡◌, ℕ, ◌+◌, ◌<◌, List, [], ◌∷◌, ◌++◌, length, get_or, drop, codes, None, refl, ap, add-one}
+use Rattle.std.proofs.lemmas.List.{drop_more}
+use Rattle.policy.specs.declared.Part.{Part}
+use Rattle.policy_tables.specs.Texts.{Content, place_of}
 use Rattle.policy_tables.specs.declared.Direction.{Direction}
-use Rattle.policy_print.specs.Printed.{clauses_text, lists_text, parts_text, policies_text, prefixes_text}
-use Rattle.policy_print.specs.Steps.{ClauseSteps, Joins, Lines, ListSteps, PartSteps, PolicySteps, PrefixSteps}
+use Rattle.prefix.specs.Prefix.{Prefix}
+use Rattle.policy_print.specs.Printed.{list_text, lists_text, part_text, parts_text, policies_text, policy_text, prefix_text, prefixes_text}
 
-pub prefix_steps : PrefixSteps
+pub prefixes_none : (before : List ℕ) → prefixes_text before [] ≡ []
 unfolding prefixes_text
-prefix_steps = record { none = λ before. refl; more = λ before p ps. refl }
+prefixes_none before = refl
 
-pub list_steps : ListSteps
+pub prefixes_more : (before : List ℕ) (p : Prefix) (ps : List Prefix) → prefixes_text before (p ∷ ps) ≡ before ++ (prefix_text p ++ prefixes_text (codes ", ") ps)
+unfolding prefixes_text
+prefixes_more before p ps = refl
+
+pub lists_none : (i : ℕ) → lists_text i [] ≡ []
 unfolding lists_text
-list_steps = record { none = λ i. refl; more = λ i l ls. refl }
+lists_none i = refl
 
-pub part_steps : PartSteps
+pub lists_more : (i : ℕ) (l : List Prefix) (ls : List (List Prefix)) → lists_text i (l ∷ ls) ≡ list_text i l ++ lists_text (i + 1) ls
+unfolding lists_text
+lists_more i l ls = refl
+
+pub parts_none : (before : List ℕ) → parts_text before [] ≡ []
 unfolding parts_text
-part_steps = record { none = λ before. refl; more = λ before p ps. refl }
+parts_none before = refl
 
-pub clause_steps : ClauseSteps
-unfolding clauses_text
-clause_steps = record { none = refl; more = λ c cs. refl }
+pub parts_more : (before : List ℕ) (p : Part) (ps : List Part) → parts_text before (p ∷ ps) ≡ before ++ (part_text p ++ parts_text (codes " and ") ps)
+unfolding parts_text
+parts_more before p ps = refl
 
-pub policy_steps : (direction : Direction) (n : ℕ) → PolicySteps direction n
+pub policies_none : (direction : Direction) (c : Content) → policies_text direction 0 c ≡ []
 unfolding policies_text
-policy_steps direction n = record { none = λ c. refl; more = λ c. ap (λ k. policies_text direction k c) (add-one n) }
+policies_none direction c = refl
 
-pub joins : Joins
-joins = record { assoc = append_assoc; nothing = append-nil }
+pub policies_more : (direction : Direction) (n : ℕ) (c : Content) → policies_text direction (n + 1) c ≡ policies_text direction n c ++ policy_text direction n (get_or c.policies (place_of direction n) None)
+unfolding policies_text
+policies_more direction n c = ap (λ k. policies_text direction k c) (add-one n)
 
-pub lines : Lines
-lines = record { list = λ t d p. simp append_assoc; policy = λ t w d p. simp append_assoc }
+-- what is left of a row, one step on
+pub read_at : {X : Type 0} (xs : List X) (i : ℕ) (d : X) → i < length xs → (get_or xs i d ≡ get_or xs i d) × (drop i xs ≡ get_or xs i d ∷ drop (i + 1) xs)
+read_at xs i d h = (refl, drop_more xs i d h)

@@ -1,2 +1,2 @@
 pub mod Printed
-pub mod Steps
+pub mod Puts

@@ -1,5 +1,6 @@
 -- Policies as a text in one layout. Assumes nothing.
 use Rattle.std.specs.Prelude.{ℕ, zero, suc, ◌+◌, ◌/◌, ◌%◌, Bool, true, false, List, [], ◌∷◌, ◌++◌, Some, None, codes, decimal, Option, slice_index_or}
+use Rattle.std.specs.List.{flat_map}
 use Rattle.policy.specs.declared.Action.{Action}
 use Rattle.policy.specs.declared.Action.TheVariants as an_action
 use Rattle.policy.specs.declared.Part.{Part}
@@ -71,9 +72,8 @@ action_text (an_action.Prepend asn times) = codes "front " ++ (decimal asn ++ (c
 abbrev pub clause_text : Written → List ℕ
 clause_text c = codes "    if " ++ (parts_text [] c.parts ++ (codes " then " ++ (action_text c.action ++ line_end)))
 
-unfoldable pub clauses_text : List Written → List ℕ
-clauses_text [] = []
-clauses_text (c ∷ cs) = clause_text c ++ clauses_text cs
+abbrev pub clauses_text : List Written → List ℕ
+clauses_text cs = flat_map clause_text cs
 
 abbrev pub direction_text : Direction → List ℕ
 direction_text Import = codes "from "

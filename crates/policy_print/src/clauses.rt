@@ -2,20 +2,17 @@
 ghost use Rattle.std.specs.Prelude.{◌≡◌, [], map, string_bytes};
 ghost use Rattle.policy_clauses.specs.Meant.{written_of};
 ghost use Rattle.policy_print.specs.Printed.{action_text, clause_text, clauses_text, part_text, parts_text, test_text};
-ghost use Rattle.policy_print.specs.Steps.{Puts};
+ghost use Rattle.policy_print.specs.Puts.{Puts};
 
-use crate::laws::{clause_law, join_law, part_law};
 use policy::{Action, Clause, Part, Test};
-use rows::{ends, unrolls};
 use std::alloc::AllocError;
 
 /// Appends the clauses, one to a line.
+#[tactic(auto, using(crate::proofs::Recursions::read_at, std::proofs::lemmas::Grind::common_steps))]
 pub(crate) fn put_clauses(text: &mut String, clauses: &[Clause]) -> Result<(), AllocError>
     ensures { Puts (string_bytes text.old) (clauses_text (map written_of clauses.now)) (string_bytes text.new) result }
 {
-    let _ = (clause_law(), join_law(), ends(clauses));
-    for (i, clause) in clauses.iter().enumerate() {
-        let _ = unrolls(clauses, i, clause);
+    for clause in clauses {
         put_clause(text, clause)?;
     }
     Ok(())
@@ -24,7 +21,6 @@ pub(crate) fn put_clauses(text: &mut String, clauses: &[Clause]) -> Result<(), A
 fn put_clause(text: &mut String, clause: &Clause) -> Result<(), AllocError>
     ensures { Puts (string_bytes text.old) (clause_text (written_of clause.now)) (string_bytes text.new) result }
 {
-    let _ = join_law();
     write!(text, "    if ")?;
     put_parts(text, clause.condition.as_slice())?;
     write!(text, " then ")?;
@@ -33,13 +29,12 @@ fn put_clause(text: &mut String, clause: &Clause) -> Result<(), AllocError>
 }
 
 /// Appends the parts of a condition, with `and` between them.
+#[tactic(auto, using(crate::proofs::Recursions::read_at, crate::proofs::Recursions::parts_more, crate::proofs::Recursions::parts_none, std::proofs::lemmas::Grind::common_steps))]
 fn put_parts(text: &mut String, parts: &[Part]) -> Result<(), AllocError>
     ensures { Puts (string_bytes text.old) (parts_text [] parts.now) (string_bytes text.new) result }
 {
-    let _ = (part_law(), join_law(), ends(parts));
     let mut before = "";
-    for (i, part) in parts.iter().enumerate() {
-        let _ = unrolls(parts, i, part);
+    for part in parts {
         write!(text, "{before}")?;
         put_part(text, *part)?;
         before = " and ";
@@ -50,7 +45,6 @@ fn put_parts(text: &mut String, parts: &[Part]) -> Result<(), AllocError>
 fn put_part(text: &mut String, part: Part) -> Result<(), AllocError>
     ensures { Puts (string_bytes text.old) (part_text part) (string_bytes text.new) result }
 {
-    let _ = join_law();
     if part.negated {
         write!(text, "not ")?;
     }

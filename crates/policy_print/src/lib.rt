@@ -2,7 +2,6 @@
 #![tactic(auto)]
 
 mod clauses;
-mod laws;
 mod lists;
 mod policies;
 

@@ -2,23 +2,20 @@
 ghost use Rattle.std.specs.Prelude.{◌≡◌, [], map, string_bytes};
 ghost use Rattle.policy.specs.Meant.{prefixes_of};
 ghost use Rattle.policy_print.specs.Printed.{list_text, lists_text, prefix_text, prefixes_text};
-ghost use Rattle.policy_print.specs.Steps.{Puts};
+ghost use Rattle.policy_print.specs.Puts.{Puts};
 ghost use Rattle.prefix.specs.Meant.{meant};
 
-use crate::laws::{join_law, line_law, list_law, prefix_law};
 use policy::PrefixList;
 use prefix::Prefix;
-use rows::{ends, unrolls};
 use std::alloc::AllocError;
 
 /// Appends the lists, one to a line.
+#[tactic(auto, using(crate::proofs::Recursions::read_at, crate::proofs::Recursions::lists_more, crate::proofs::Recursions::lists_none, std::proofs::lemmas::Grind::common_steps))]
 pub(crate) fn put_lists(text: &mut String, lists: &[PrefixList]) -> Result<(), AllocError>
     ensures { Puts (string_bytes text.old) (lists_text 0 (map prefixes_of lists.now)) (string_bytes text.new) result }
 {
-    let _ = (list_law(), join_law(), ends(lists));
-    for (i, list) in lists.iter().enumerate() {
-        let _ = unrolls(lists, i, list);
-        put_list(text, i, list)?;
+    for (number, list) in lists.iter().enumerate() {
+        put_list(text, number, list)?;
     }
     Ok(())
 }
@@ -27,20 +24,18 @@ pub(crate) fn put_lists(text: &mut String, lists: &[PrefixList]) -> Result<(), A
 fn put_list(text: &mut String, number: usize, list: &PrefixList) -> Result<(), AllocError>
     ensures { Puts (string_bytes text.old) (list_text number (prefixes_of list.now)) (string_bytes text.new) result }
 {
-    let _ = line_law();
     write!(text, "list l{number} = ")?;
     put_prefixes(text, list.as_slice())?;
     write!(text, "\n")
 }
 
 /// Appends the prefixes, with commas between them.
+#[tactic(auto, using(crate::proofs::Recursions::read_at, crate::proofs::Recursions::prefixes_more, crate::proofs::Recursions::prefixes_none, std::proofs::lemmas::Grind::common_steps))]
 fn put_prefixes(text: &mut String, prefixes: &[Prefix]) -> Result<(), AllocError>
     ensures { Puts (string_bytes text.old) (prefixes_text [] (map meant prefixes.now)) (string_bytes text.new) result }
 {
-    let _ = (prefix_law(), join_law(), ends(prefixes));
     let mut before = "";
-    for (i, prefix) in prefixes.iter().enumerate() {
-        let _ = unrolls(prefixes, i, prefix);
+    for prefix in prefixes {
         write!(text, "{before}")?;
         put_prefix(text, prefix)?;
         before = ", ";

@@ -1,11 +1,10 @@
 //! Whole texts.
 ghost use Rattle.std.specs.Prelude.{◌≡◌, ◌<◌, IfOk, string_bytes};
 ghost use Rattle.policy_print.specs.Printed.{direction_text, policies_text, policy_text, printed};
-ghost use Rattle.policy_print.specs.Steps.{Puts};
+ghost use Rattle.policy_print.specs.Puts.{Puts};
 ghost use Rattle.policy_tables.specs.Meant.{content_of, named_of};
 
 use crate::clauses::put_clauses;
-use crate::laws::{join_law, line_law, policy_law};
 use crate::lists::put_lists;
 use policy::Clause;
 use policy_tables::{Direction, Policies};
@@ -15,7 +14,6 @@ use std::alloc::{AllocError, Global};
 pub fn print(heap: Global, policies: &Policies) -> Result<String, AllocError>
     ensures { IfOk result (λ text. string_bytes text ≡ printed (content_of policies.now)) }
 {
-    let _ = join_law();
     let mut text = String::new(heap);
     put_lists(&mut text, policies.lists())?;
     put_policies(&mut text, policies, Direction::Import)?;
@@ -24,6 +22,7 @@ pub fn print(heap: Global, policies: &Policies) -> Result<String, AllocError>
 }
 
 /// Appends the policies of one direction.
+#[tactic(auto, using(crate::proofs::Recursions::policies_more, crate::proofs::Recursions::policies_none, std::proofs::lemmas::Grind::common_steps))]
 fn put_policies(
     text: &mut String,
     policies: &Policies,
@@ -31,9 +30,7 @@ fn put_policies(
 ) -> Result<(), AllocError>
     ensures { Puts (string_bytes text.old) (policies_text direction 64 (content_of policies.now)) (string_bytes text.new) result }
 {
-    let _ = (policy_law(direction, 0), join_law());
     for peer in 0..64 {
-        let _ = policy_law(direction, peer);
         put_policy(text, direction, peer, policies.clauses(direction, peer))?;
     }
     Ok(())
@@ -48,7 +45,6 @@ fn put_policy(
 ) -> Result<(), AllocError>
     ensures { Puts (string_bytes text.old) (policy_text direction peer (named_of clauses.entry)) (string_bytes text.new) result }
 {
-    let _ = (join_law(), line_law());
     let Some(clauses) = clauses else {
         return Ok(());
     };

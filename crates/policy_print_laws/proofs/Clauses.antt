@@ -46,7 +46,7 @@ module _ (count : ℕ) (few : count ≤ 64) where
   with negated t rest = Got (record { negated = negated; test = t }) rest
 
   test_read : (negated : Bool) (t : Test) (rest : List ℕ) → TestFits count t → Stops rest → part (names_below count) negated (behind (test_text t ++ rest)) ≡ with negated t (behind rest)
-  unfolding plain part is_ascii
+  unfolding plain part
   test_read negated a_test.Any rest h s = ap (part (names_below count) negated) (word_behind false 97 (110 ∷ (121 ∷ [])) rest (refl, (refl, (refl, tt))) s)
   test_read negated (a_test.PrefixIn i) rest h s = ap (λ x. next (next x (λ j r. Got (a_test.PrefixIn j) r)) (with negated)) (list_name_read i rest h s)
   test_read negated (a_test.PrefixWithin i) rest h s = ap (λ x. next (next x (λ j r. Got (a_test.PrefixWithin j) r)) (with negated)) (list_name_read i rest h s)
@@ -55,7 +55,7 @@ module _ (count : ℕ) (few : count ≤ 64) where
   test_read negated (a_test.LongerThan n) rest h s = ap (λ x. next (next x (λ m r. Got (a_test.LongerThan m) r)) (with negated)) (number_read awaited.Number n rest h s)
 
   signed_read : (negated : Bool) (t : Test) (rest : List ℕ) → TestFits count t → Stops rest → part (names_below count) false (behind ((not_text negated ++ test_text t) ++ rest)) ≡ with negated t (behind rest)
-  unfolding plain part is_ascii
+  unfolding plain part
   signed_read true t rest h s = test_read true t rest h s
   signed_read false t rest h s = test_read false t rest h s
 
@@ -75,7 +75,7 @@ module _ (count : ℕ) (few : count ≤ 64) where
   then_stops (p ∷ ps) rest = blank_stops
 
   parts_read : (k : ℕ) (before : List Part) (p : Part) (ps : List Part) (rest : List ℕ) → length ps ≤ k → All (PartFits count) (p ∷ ps) → parts k (names_below count) before (behind (parts_text [] (p ∷ ps) ++ (codes " then " ++ rest))) ≡ Got (before ++ (p ∷ ps)) (behind rest)
-  unfolding parts parts_text plain is_ascii
+  unfolding parts parts_text plain
   parts_read zero before p [] rest h all =
       ap (λ t. parts zero (names_below count) before (behind t)) (append_assoc (part_text p) [] (codes " then " ++ rest))
       ∙ ap (λ x. next x (last before)) (part_read p (codes " then " ++ rest) all.0 blank_stops)
@@ -94,7 +94,7 @@ module _ (count : ℕ) (few : count ≤ 64) where
   condition_read (p ∷ ps) rest some most all = parts_read 15 [] p ps rest (omega arith) all
 
 times_read : (n : ℕ) (rest : List ℕ) → n ≤ 8 → Stops rest → times (behind (codes " times " ++ (decimal n ++ rest))) ≡ Got n (behind rest)
-unfolding plain is_ascii
+unfolding plain
 times_read n rest h s =
     ap (λ x. next x (λ v r. or_stop (number_of v.1) (λ m. cond (leb m 8) (Got m r) (Stop v.0 awaited.Count)) (Stop v.0 awaited.Count))) (word_read awaited.Count (decimal n) rest (decimal_nonempty n (omega arith)) (plain_decimal n (omega arith)) s)
     ∙ ap (λ o. or_stop o (λ m. cond (leb m 8) (Got m (behind rest)) (Stop 0 awaited.Count)) (Stop 0 awaited.Count)) (number_decimal n (omega arith))
@@ -104,7 +104,7 @@ abbrev numbered : (ℕ → Action) → ℕ → Source → Reading Action
 numbered f n r = Got (f n) r
 
 pub action_read : (a : Action) (rest : List ℕ) → ActionFits a → Stops rest → action_of (behind (action_text a ++ rest)) ≡ Got a (behind rest)
-unfolding plain is_ascii
+unfolding plain
 action_read an_action.Accept rest h s = ap action_of (word_behind false 116 (97 ∷ (107 ∷ (101 ∷ []))) rest (refl, (refl, (refl, (refl, tt)))) s)
 action_read an_action.Reject rest h s = ap action_of (word_behind false 108 (101 ∷ (97 ∷ (118 ∷ (101 ∷ [])))) rest (refl, (refl, (refl, (refl, (refl, tt))))) s)
 action_read (an_action.SetLocalPref n) rest h s = ap (λ x. next x (numbered an_action.SetLocalPref)) (number_read awaited.Number n rest h s)
@@ -132,7 +132,7 @@ module _ (count : ℕ) (few : count ≤ 64) where
   line_read k false before c rest h = ap (λ x. next x (λ d r. clauses k (names_below count) false (before ++ (d ∷ [])) r)) (clause_read c rest h)
 
   pub clauses_read_lem : (k : ℕ) (first : Bool) (before cs : List Written) (rest : List ℕ) → length cs ≤ k → All (ClauseFits count) cs → clauses k (names_below count) first before (plain (Between true) (clauses_text cs ++ (codes "}" ++ (line_end ++ rest)))) ≡ Got (before ++ cs) (plain (Between true) rest)
-  unfolding plain clauses clauses_text
+  unfolding plain clauses
   clauses_read_lem zero first before [] rest h all = ap (λ xs. Got xs (plain (Between true) rest)) (sym (append-nil before))
   clauses_read_lem (suc k) first before [] rest h all = ap (λ xs. Got xs (plain (Between true) rest)) (sym (append-nil before))
   clauses_read_lem zero first before (c ∷ cs) rest h all = absurd (omega arith)

@@ -103,7 +103,6 @@ number_small a s = after Anything Small (word a s) (λ w r. or_stop (number_of w
 
 -- lists are among those above
 index_low : (i n : ℕ) (name : List ℕ) (names : List (List ℕ)) → i + length names ≡ n → Holds (λ j. j < n) (index_from i name names)
-unfolding index_from
 index_low i n name [] e = tt
 index_low i n name (x ∷ xs) e = cond_both (bytes_eq name x) (Some i) (index_from (i + 1) name xs) (Holds (λ j. j < n)) (λ _. omega arith) (λ _. index_low (i + 1) n name xs (omega arith))
 
@@ -120,21 +119,21 @@ module _ (names : List (List ℕ)) where
   Tested : Test → Type 0
   Tested t = TestFits (length names) t
 
-  range_fits : (at : ℕ) (k : RangeWord) (s : Source) → Yields Tested (range_test names at k s)
+  range_fits : (at : ℕ) (k : Option RangeWord) (s : Source) → Yields Tested (range_test names at k s)
   unfolding Tested Listed
-  range_fits at range.In s = after Listed Tested (list_name names s) (λ i r. Got (a_test.PrefixIn i) r) (name_low s) (λ i r h. h)
-  range_fits at range.Within s = after Listed Tested (list_name names s) (λ i r. Got (a_test.PrefixWithin i) r) (name_low s) (λ i r h. h)
-  range_fits at range.Other s = tt
+  range_fits at (Some range.In) s = after Listed Tested (list_name names s) (λ i r. Got (a_test.PrefixIn i) r) (name_low s) (λ i r h. h)
+  range_fits at (Some range.Within) s = after Listed Tested (list_name names s) (λ i r. Got (a_test.PrefixWithin i) r) (name_low s) (λ i r h. h)
+  range_fits at None s = tt
 
-  test_fits : (at : ℕ) (k : TestWord) (s : Source) → Yields Tested (test_at names at k s)
+  test_fits : (at : ℕ) (k : Option TestWord) (s : Source) → Yields Tested (test_at names at k s)
   unfolding Tested
-  test_fits at test.Not s = tt
-  test_fits at test.Any s = tt
-  test_fits at test.Range s = after Anything Tested (word awaited.InOrWithin s) (λ w r. range_test names w.0 (range_word w.1) r) (anyway (word awaited.InOrWithin s)) (λ w r _. range_fits w.0 (range_word w.1) r)
-  test_fits at test.Passes s = after Small Tested (number awaited.Number s) (λ n r. Got (a_test.Passes n) r) (number_small awaited.Number s) (λ n r h. h)
-  test_fits at test.Marked s = after Small Tested (number awaited.Number s) (λ n r. Got (a_test.HasCommunity n) r) (number_small awaited.Number s) (λ n r h. h)
-  test_fits at test.Longer s = after Small Tested (number awaited.Number s) (λ n r. Got (a_test.LongerThan n) r) (number_small awaited.Number s) (λ n r h. h)
-  test_fits at test.Other s = tt
+  test_fits at (Some test.Not) s = tt
+  test_fits at (Some test.Any) s = tt
+  test_fits at (Some test.Range) s = after Anything Tested (word awaited.InOrWithin s) (λ w r. range_test names w.0 (range_word w.1) r) (anyway (word awaited.InOrWithin s)) (λ w r _. range_fits w.0 (range_word w.1) r)
+  test_fits at (Some test.Passes) s = after Small Tested (number awaited.Number s) (λ n r. Got (a_test.Passes n) r) (number_small awaited.Number s) (λ n r h. h)
+  test_fits at (Some test.Marked) s = after Small Tested (number awaited.Number s) (λ n r. Got (a_test.HasCommunity n) r) (number_small awaited.Number s) (λ n r h. h)
+  test_fits at (Some test.Longer) s = after Small Tested (number awaited.Number s) (λ n r. Got (a_test.LongerThan n) r) (number_small awaited.Number s) (λ n r h. h)
+  test_fits at None s = tt
 
   abbrev Parted : Part → Type 0
   Parted p = PartFits (length names) p
@@ -143,14 +142,14 @@ module _ (names : List (List ℕ)) where
   unfolding Tested
   with negated x h = after Tested Parted x (λ t r. Got (record { negated = negated; test = t }) r) h (λ t r g. g)
 
-  part_at_fits : (negated : Bool) (at : ℕ) (k : TestWord) (s : Source) (again : Reading Part) → Yields Parted again → Yields Parted (part_at names negated at k s again)
-  part_at_fits negated at test.Not s again h = h
-  part_at_fits negated at test.Any s again h = with negated (test_at names at test.Any s) (test_fits at test.Any s)
-  part_at_fits negated at test.Range s again h = with negated (test_at names at test.Range s) (test_fits at test.Range s)
-  part_at_fits negated at test.Passes s again h = with negated (test_at names at test.Passes s) (test_fits at test.Passes s)
-  part_at_fits negated at test.Marked s again h = with negated (test_at names at test.Marked s) (test_fits at test.Marked s)
-  part_at_fits negated at test.Longer s again h = with negated (test_at names at test.Longer s) (test_fits at test.Longer s)
-  part_at_fits negated at test.Other s again h = tt
+  part_at_fits : (negated : Bool) (at : ℕ) (k : Option TestWord) (s : Source) (again : Reading Part) → Yields Parted again → Yields Parted (part_at names negated at k s again)
+  part_at_fits negated at (Some test.Not) s again h = h
+  part_at_fits negated at (Some test.Any) s again h = with negated (test_at names at (Some test.Any) s) (test_fits at (Some test.Any) s)
+  part_at_fits negated at (Some test.Range) s again h = with negated (test_at names at (Some test.Range) s) (test_fits at (Some test.Range) s)
+  part_at_fits negated at (Some test.Passes) s again h = with negated (test_at names at (Some test.Passes) s) (test_fits at (Some test.Passes) s)
+  part_at_fits negated at (Some test.Marked) s again h = with negated (test_at names at (Some test.Marked) s) (test_fits at (Some test.Marked) s)
+  part_at_fits negated at (Some test.Longer) s again h = with negated (test_at names at (Some test.Longer) s) (test_fits at (Some test.Longer) s)
+  part_at_fits negated at None s again h = tt
 
 on_kind_lem : {B : Type 0} (Q : B → Type 0) (a : Awaited) (at : ℕ) (k : Kind) (f : List ℕ → Reading B) → ((w : List ℕ) → Yields Q (f w)) → Yields Q (on_kind a at k f)
 on_kind_lem Q a at (Word w) f h = if_so Q (is_ascii w) (f w) (Stop at a) (λ _. h w) tt
@@ -178,10 +177,10 @@ module _ (names : List (List ℕ)) where
   part_fits negated (More t rest) =
       on_word_lem P awaited.Test t (λ w. part_at names negated t.at (test_word w) rest (part names (not negated) rest)) (λ w. part_at_fits names negated t.at (test_word w) rest (part names (not negated) rest) (part_fits (not negated) rest))
 
-  joined_fits : (n at : ℕ) (w : JointWord) (ps : List Part) (r : Source) (more : Reading (List Part)) → Row P n ps → Yields (Row P n) more → Yields (Row P n) (joined at w ps r more)
-  joined_fits n at joint.And ps r more h g = g
-  joined_fits n at joint.Then ps r more h g = h
-  joined_fits n at joint.Other ps r more h g = tt
+  joined_fits : (n at : ℕ) (w : Option JointWord) (ps : List Part) (r : Source) (more : Reading (List Part)) → Row P n ps → Yields (Row P n) more → Yields (Row P n) (joined at w ps r more)
+  joined_fits n at (Some joint.And) ps r more h g = g
+  joined_fits n at (Some joint.Then) ps r more h g = h
+  joined_fits n at None ps r more h g = tt
 
   parts_fit : (n k : ℕ) (before : List Part) (s : Source) → length before + suc k ≤ n → All P before → Yields (Row P n) (parts k names before s)
   unfolding parts
@@ -215,17 +214,17 @@ times_fit s =
     (λ w r _. if_so Eight (bytes_eq w.1 (codes "times")) (next (word awaited.Count r) counted) (Stop w.0 awaited.Times)
     (λ _. after Anything Eight (word awaited.Count r) counted (anyway (word awaited.Count r)) (λ v r₂ _. counted_fits v r₂)) tt)
 
-action_at_fits : (at : ℕ) (k : ActionWord) (s : Source) → Yields ActionFits (action_at at k s)
-action_at_fits at action.Take s = tt
-action_at_fits at action.Leave s = tt
-action_at_fits at action.Like s = after Small ActionFits (number awaited.Number s) (λ n r. Got (an_action.SetLocalPref n) r) (number_small awaited.Number s) (λ n r h. h)
-action_at_fits at action.Far s = after Small ActionFits (number awaited.Number s) (λ n r. Got (an_action.SetMed n) r) (number_small awaited.Number s) (λ n r h. h)
-action_at_fits at action.Mark s = after Small ActionFits (number awaited.Number s) (λ n r. Got (an_action.AddCommunity n) r) (number_small awaited.Number s) (λ n r h. h)
-action_at_fits at action.Unmark s = after Small ActionFits (number awaited.Number s) (λ n r. Got (an_action.RemoveCommunity n) r) (number_small awaited.Number s) (λ n r h. h)
-action_at_fits at action.Front s =
+action_at_fits : (at : ℕ) (k : Option ActionWord) (s : Source) → Yields ActionFits (action_at at k s)
+action_at_fits at (Some action.Take) s = tt
+action_at_fits at (Some action.Leave) s = tt
+action_at_fits at (Some action.Like) s = after Small ActionFits (number awaited.Number s) (λ n r. Got (an_action.SetLocalPref n) r) (number_small awaited.Number s) (λ n r h. h)
+action_at_fits at (Some action.Far) s = after Small ActionFits (number awaited.Number s) (λ n r. Got (an_action.SetMed n) r) (number_small awaited.Number s) (λ n r h. h)
+action_at_fits at (Some action.Mark) s = after Small ActionFits (number awaited.Number s) (λ n r. Got (an_action.AddCommunity n) r) (number_small awaited.Number s) (λ n r h. h)
+action_at_fits at (Some action.Unmark) s = after Small ActionFits (number awaited.Number s) (λ n r. Got (an_action.RemoveCommunity n) r) (number_small awaited.Number s) (λ n r h. h)
+action_at_fits at (Some action.Front) s =
     after Small ActionFits (number awaited.Number s) (λ n r. next (times r) (λ k r₂. Got (an_action.Prepend n k) r₂)) (number_small awaited.Number s)
     (λ n r h. after Eight ActionFits (times r) (λ k r₂. Got (an_action.Prepend n k) r₂) (times_fit r) (λ k r₂ g. (h, g)))
-action_at_fits at action.Other s = tt
+action_at_fits at None s = tt
 
 action_fits : (s : Source) → Yields ActionFits (action_of s)
 action_fits s = after Anything ActionFits (word awaited.Action s) (λ w r. action_at w.0 (action_word w.1) r) (anyway (word awaited.Action s)) (λ w r _. action_at_fits w.0 (action_word w.1) r)
@@ -415,11 +414,11 @@ module _ (peers : ℕ) where
       (clauses_fit d.names 256 (min 256 (4096 - d.count)) true [] r₂ (omega arith) tt)
       (λ cs r₃ f. with_policy_lem direction place cs d g p f.few f.all)))
 
-  item_text_good : (d : Draft) (at : ℕ) (w : ItemWord) (s : Source) → Good peers d → Yields (Good peers) (item_text peers d at w s)
-  item_text_good d at an_item_word.List s g = list_text_good at d s g
-  item_text_good d at an_item_word.From s g = policy_text_good Import d s g
-  item_text_good d at an_item_word.To s g = policy_text_good Export d s g
-  item_text_good d at an_item_word.Other s g = tt
+  item_text_good : (d : Draft) (at : ℕ) (w : Option ItemWord) (s : Source) → Good peers d → Yields (Good peers) (item_text peers d at w s)
+  item_text_good d at (Some an_item_word.List) s g = list_text_good at d s g
+  item_text_good d at (Some an_item_word.From) s g = policy_text_good Import d s g
+  item_text_good d at (Some an_item_word.To) s g = policy_text_good Export d s g
+  item_text_good d at None s g = tt
 
   items_good : (k : ℕ) (d : Draft) (s : Source) → Good peers d → Yields (Good peers) (items k peers d s)
   unfolding items

@@ -3,7 +3,8 @@ use Rattle.std.proofs.Common.{◌≡◌, ℕ, zero, suc, ◌+◌, ◌-◌, ◌*�
 use Rattle.policy_clauses.specs.Reading.{index_from, index_of}
 use Rattle.policy_print.specs.Printed.{name_text, prefix_text}
 use Rattle.policy_tables.proofs.Truths.{found_at_end, stays}
-use Rattle.policy_words.specs.Words.{address_of, and_then, are_name_bytes, checked, if_done, is_ascii, is_name, is_name_byte, leading, leading_from, number_of, octet, octet_of, prefix_of}
+use Rattle.std.specs.List.{list_all}
+use Rattle.policy_words.specs.Words.{address_of, and_then, checked, if_done, is_ascii, is_name, is_name_byte, leading, leading_from, number_of, octet, octet_of, prefix_of}
 use Rattle.prefix.specs.Prefix.{Prefix, is_prefix}
 use Rattle.std.proofs.lemmas.Fmt.{decimal_by_steps, decimal_injective}
 use Rattle.std.proofs.lemmas.Slice.Eq.{bytes_eq-Decides}
@@ -49,7 +50,6 @@ pub letters : (w : List ℕ) → All Plainly w → All IsLetter w
 letters w h = all_weaker Plainly IsLetter (λ b p. p.letter) w h
 
 pub ascii : (w : List ℕ) → All Plainly w → is_ascii w ≡ true
-unfolding is_ascii
 ascii [] h = refl
 ascii (b ∷ bs) h = and_from (ltb b 128) (is_ascii bs) h.0.ascii (ascii bs h.1)
 
@@ -156,10 +156,9 @@ names_below (suc n) = names_below n ++ (name_text n ∷ [])
 pub plain_name : (i : ℕ) → i < 2 ^ 64 → All Plainly (name_text i)
 plain_name i h = (record { letter = refl; ascii = refl }, plain_decimal i h)
 
-name_bytes : (w : List ℕ) → All IsFigure w → are_name_bytes w ≡ true
-unfolding are_name_bytes
+name_bytes : (w : List ℕ) → All IsFigure w → list_all is_name_byte w ≡ true
 name_bytes [] h = refl
-name_bytes (b ∷ bs) h = let l = h.0.low in let u = h.0.high in and_from (is_name_byte b) (are_name_bytes bs) (grind (arith, nat_tests)) (name_bytes bs h.1)
+name_bytes (b ∷ bs) h = let l = h.0.low in let u = h.0.high in and_from (is_name_byte b) (list_all is_name_byte bs) (grind (arith, nat_tests)) (name_bytes bs h.1)
 
 pub is_name_lem : (i : ℕ) → i < 2 ^ 64 → is_name (name_text i) ≡ true
 is_name_lem i h = name_bytes (decimal i) (figures i h)
@@ -176,12 +175,11 @@ passed true k x y h g = let z : ◌≡◌ {A = ℕ} 0 1 = cc in absurd (omega ar
 passed false k x y h g = h g
 
 not_behind : (k : ℕ) (name other : List ℕ) (names : List (List ℕ)) → index_from k name names ≡ None → bytes_eq name other ≡ false → index_from k name (names ++ (other ∷ [])) ≡ None
-unfolding index_from
 not_behind k name other [] h e = cond-false (bytes_eq name other) _ _ e
 not_behind k name other (x ∷ xs) h e = passed (bytes_eq name x) k (index_from (k + 1) name xs) (index_from (k + 1) name (xs ++ (other ∷ []))) (λ g. not_behind (k + 1) name other xs g e) h
 
 pub absent : (n i : ℕ) → n ≤ i → i < 2 ^ 64 → index_of (name_text i) (names_below n) ≡ None
-unfolding names_below index_from
+unfolding names_below
 absent zero i h small = refl
 absent (suc n) i h small = not_behind 0 (name_text i) (name_text n) (names_below n) (absent n i (omega arith) small) (other_name i n small (omega arith) (λ e. omega arith))
 

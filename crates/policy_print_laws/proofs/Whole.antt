@@ -12,7 +12,7 @@ use Rattle.policy_tables.specs.Texts.{Content, Draft, Outcome, Read, Refused, em
 use Rattle.policy_tables.specs.Texts as texts
 use Rattle.policy_tables.specs.declared.Direction.{Direction}
 use Rattle.policy_tables.specs.declared.Direction.TheVariants.{Import, Export}
-use Rattle.policy_words.specs.Words.{is_ascii, is_name, number_of, prefix_of}
+use Rattle.policy_words.specs.Words.{is_name, number_of, prefix_of}
 use Rattle.prefix.specs.Prefix.{Prefix}
 use Rattle.std.proofs.lemmas.Fmt.{decimal_nonempty}
 use Rattle.std.proofs.lemmas.List.{get_or_at, length_push, length-take-le, set_at, take_all, take-append-drop, take_more}
@@ -88,7 +88,7 @@ abbrev drafted : ℕ → List (List Prefix) → Draft
 drafted n ls = record { names = names_below n; lists = ls; policies = nothing.policies; count = 0 }
 
 one_list : (j peers : ℕ) (done : List (List Prefix)) (l : List Prefix) (rest : List ℕ) → length done < 64 → ListFits l → items (suc j) peers (drafted (length done) done) (line (list_text (length done) l ++ rest)) ≡ items j peers (drafted (suc (length done)) (done ++ (l ∷ []))) (line rest)
-unfolding plain items is_ascii names_below
+unfolding plain items names_below
 one_list j peers done l rest few h =
     let i : ℕ = length done in
     let d : Draft = drafted i done in
@@ -151,7 +151,7 @@ module _ (peers : ℕ) (count : ℕ) (few : count ≤ 64) (lists : List (List Pr
       ∙ ap (λ x. next x (λ cs r₃. Got (with_policy (place_of direction n) cs d) r₃)) (clauses_read_lem count few (min 256 (4096 - before)) true [] cs rest within h.all)
 
   item_read : (direction : Direction) (policies : List (Option (List Written))) (before n j : ℕ) (cs : List Written) (rest : List ℕ) → n < 64 → PolicyFits count peers n cs → before + length cs ≤ 4096 → get_or policies (place_of direction n) None ≡ None → items (suc j) peers (draft policies before) (line (policy_text direction n (Some cs) ++ rest)) ≡ items j peers (with_policy (place_of direction n) cs (draft policies before)) (line rest)
-  unfolding plain items is_ascii
+  unfolding plain items
   item_read Import policies before n j cs rest small h room free = ap (λ x. next x (λ e r. items j peers e r)) (policy_read Import policies before n cs rest small h room free)
   item_read Export policies before n j cs rest small h room free = ap (λ x. next x (λ e r. items j peers e r)) (policy_read Export policies before n cs rest small h room free)
 
@@ -185,7 +185,6 @@ clause_size c =
     (arith, action_size c.action, length-append (parts_text [] c.parts) (codes " then " ++ (action_text c.action ++ line_end)), length-append (action_text c.action) line_end)
 
 clauses_size : (cs : List Written) → 16 * length cs ≤ length (clauses_text cs)
-unfolding clauses_text
 clauses_size [] = omega arith
 clauses_size (c ∷ cs) = let rest = clauses_size cs in omega (arith, clause_size c, length-append (clause_text c) (clauses_text cs))
 

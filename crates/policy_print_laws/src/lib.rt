@@ -2,8 +2,11 @@
 #![tactic(auto)]
 
 ghost use Rattle.policy_print_laws.specs.RoundTrip.{RoundTrip};
+ghost use Rattle.policy_print_laws.specs.declared.Unprinted.TheVariants.{NoMemory, Refused};
+ghost use Rattle.std.specs.Prelude.{◌≡◌};
 
 use policy_clauses::Refusal;
+use std::alloc::AllocError;
 
 mod reprints;
 
@@ -15,6 +18,22 @@ pub enum Unprinted {
     /// It cannot be read.
     Refused(Refusal),
     NoMemory,
+}
+
+impl From<Refusal> for Unprinted {
+    ghost from_gives = { λ refusal why. why ≡ Refused refusal };
+
+    fn from(refusal: Refusal) -> Unprinted {
+        Unprinted::Refused(refusal)
+    }
+}
+
+impl From<AllocError> for Unprinted {
+    ghost from_gives = { λ _ why. why ≡ NoMemory };
+
+    fn from(_error: AllocError) -> Unprinted {
+        Unprinted::NoMemory
+    }
 }
 
 /// Reading what was printed gives the same policies, and what is read can be printed.

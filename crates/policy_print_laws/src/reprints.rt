@@ -18,11 +18,6 @@ pub fn reprint(
 ) -> Result<String, Unprinted>
     ensures { MatchResult result (λ anew. Reprinted peers text.now (string_bytes anew) (content_of policies.new)) (λ e. Unchanged (meaning peers text.now) (content_of policies.new) e) }
 {
-    if let Err(refusal) = policies.read(peers, text) {
-        return Err(Unprinted::Refused(refusal));
-    }
-    match print(heap, policies) {
-        Ok(anew) => Ok(anew),
-        Err(_) => Err(Unprinted::NoMemory),
-    }
+    policies.read(peers, text)?;
+    Ok(print(heap, policies)?)
 }

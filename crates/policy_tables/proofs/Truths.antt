@@ -45,11 +45,11 @@ list_blind at d s =
     (λ name r. then_blind (λ x. x) prefix_list (λ list rest₂. Got (with_list name list d) rest₂) (prefixes_blind 63 []) (λ list r₂. refl) r) s)
     refl
 
-item_text_blind : (peers : ℕ) (d : Draft) (at : ℕ) (w : ItemWord) (s : Source) → item_text peers d 0 w (unplaced s) ≡ strip (item_text peers d at w s)
-item_text_blind peers d at an_item_word.List s = list_blind at d s
-item_text_blind peers d at an_item_word.From s = policy_blind peers Import d s
-item_text_blind peers d at an_item_word.To s = policy_blind peers Export d s
-item_text_blind peers d at an_item_word.Other s = refl
+item_text_blind : (peers : ℕ) (d : Draft) (at : ℕ) (w : Option ItemWord) (s : Source) → item_text peers d 0 w (unplaced s) ≡ strip (item_text peers d at w s)
+item_text_blind peers d at (Some an_item_word.List) s = list_blind at d s
+item_text_blind peers d at (Some an_item_word.From) s = policy_blind peers Import d s
+item_text_blind peers d at (Some an_item_word.To) s = policy_blind peers Export d s
+item_text_blind peers d at None s = refl
 
 onward : (k peers : ℕ) (x : Reading Draft) → ((e : Draft) (r : Source) → outcome (items k peers e (unplaced r)) ≡ placeless (outcome (items k peers e r))) → outcome (next (strip x) (λ e rest₂. items k peers e rest₂)) ≡ placeless (outcome (next x (λ e rest₂. items k peers e rest₂)))
 onward k peers (Got e r) h = h e r
@@ -78,7 +78,6 @@ behind_one true i j x y h e = let z : ◌≡◌ {A = ℕ} 0 1 = cc in absurd (om
 behind_one false i j x y h e = h e
 
 pub found_at_end : (i : ℕ) (name : List ℕ) (names : List (List ℕ)) → index_from i name names ≡ None → index_from i name (names ++ (name ∷ [])) ≡ Some (i + length names)
-unfolding index_from
 found_at_end i name [] e = let same = (bytes_eq-Decides name name).1 refl in let none : i + 0 ≡ i = omega arith in cond-true (bytes_eq name name) _ _ same ∙ ap Some (sym none)
 found_at_end i name (other ∷ names) e =
     let one : i + 1 + length names ≡ i + suc (length names) = omega arith in
@@ -89,7 +88,6 @@ still true i j x y h e = e
 still false i j x y h e = h e
 
 pub stays : (i : ℕ) (name other : List ℕ) (names : List (List ℕ)) (j : ℕ) → index_from i name names ≡ Some j → index_from i name (names ++ (other ∷ [])) ≡ Some j
-unfolding index_from
 stays i name other [] j e = let z : ◌≡◌ {A = ℕ} 0 1 = cc in absurd (omega arith)
 stays i name other (x ∷ names) j e = still (bytes_eq name x) i j (index_from (i + 1) name names) (index_from (i + 1) name (names ++ (other ∷ []))) (λ h. stays (i + 1) name other names j h) e
 

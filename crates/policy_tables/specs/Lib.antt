@@ -1,5 +1,4 @@
 pub mod Slots
 pub mod Texts
 pub mod Meant
-pub mod Steps
 pub mod Laws

@@ -17,7 +17,7 @@ use Rattle.policy_tables.specs.Slots.{slot_policy}
 use Rattle.policy_tables.specs.Texts.{Content, Draft, Outcome, Read, Refused, item}
 
 abbrev pub content_of : Policies → Content
-content_of p = record { lists = map prefixes_of (vec_items p.lists); policies = map (slot_policy (stored p.pool)) p.slots }
+content_of p = record { lists = map prefixes_of (vec_items p.lists); policies = map (slot_policy (stored p.pool)) p.spans }
 
 -- the clauses of a policy that the text names
 abbrev pub named_of : Option (Bor (List Clause)) → Option (List Written)
@@ -27,6 +27,10 @@ named_of (Some cs) = Some (map written_of cs.now)
 -- what was read so far, with the names of the lists
 abbrev pub draft_of : Policies → List (List ℕ) → Draft
 draft_of p names = record { names = names; lists = (content_of p).lists; policies = (content_of p).policies; count = length (stored p.pool) }
+
+-- each list has its name
+abbrev pub IsLevel : Draft → Type 0
+IsLevel d = length d.names ≡ length d.lists
 
 -- a list or a policy, behind the code's token; at the end there is none
 abbrev pub item_as : ℕ → Draft → ℕ → Bool → stored_kind.Kind → Source → Reading Draft

@@ -1,18 +1,21 @@
 -- Where the clauses of each policy stand. Assumes nothing.
-use Rattle.std.specs.Prelude.{ℕ, ◌+◌, Bool, true, false, cond, ◌&&◌, List, [], ◌∷◌, map, take, drop, Some, None, Option, nat_le}
+use Rattle.std.specs.Prelude.{ℕ, ◌+◌, Bool, true, List, map, take, drop, Some, None, Option, nat_le}
+use Rattle.std.specs.List.{list_all}
+use Rattle.std.specs.Option.{option_map}
 use Rattle.policy.specs.declared.Clause.{Clause}
 use Rattle.policy_clauses.specs.Meant.{written_of}
 use Rattle.policy_clauses.specs.Reading.{Written}
-use Rattle.policy_tables.specs.declared.Slot.{Slot}
+use Rattle.policy_tables.specs.declared.Span.{Span}
 
--- no slot goes past n clauses
-unfoldable pub all_fit : ℕ → List Slot → Bool
-all_fit n [] = true
-all_fit n (s ∷ ss) = nat_le (s.start + s.count) n && all_fit n ss
+-- a span does not go past n clauses
+abbrev pub fits : ℕ → Option Span → Bool
+fits n None = true
+fits n (Some s) = nat_le (s.start + s.count) n
 
--- the clauses of a slot; none if the text does not name the policy
-abbrev pub slot_policy : List Clause → Slot → Option (List Written)
-slot_policy pool s = cond s.named (Some (map written_of (take s.count (drop s.start pool)))) None
+-- no span goes past n clauses
+abbrev pub all_fit : ℕ → List (Option Span) → Bool
+all_fit n spans = list_all (fits n) spans
 
-abbrev pub free_slot : Slot
-free_slot = record { named = false; start = 0; count = 0 }
+-- the clauses of a span; none if the text does not name the policy
+abbrev pub slot_policy : List Clause → Option Span → Option (List Written)
+slot_policy pool s = option_map (λ p. map written_of (take p.count (drop p.start pool))) s

@@ -70,11 +70,11 @@ list_text at d s =
     (next (list_head d.names s) (λ name rest. next (prefix_list rest) (λ list rest₂. Got (with_list name list d) rest₂)))
     (Stop at awaited.Policy)
 
-abbrev pub item_text : ℕ → Draft → ℕ → ItemWord → Source → Reading Draft
-item_text peers d at an_item_word.List s = list_text at d s
-item_text peers d at an_item_word.From s = policy_text peers Import d s
-item_text peers d at an_item_word.To s = policy_text peers Export d s
-item_text peers d at an_item_word.Other s = Stop at awaited.Item
+abbrev pub item_text : ℕ → Draft → ℕ → Option ItemWord → Source → Reading Draft
+item_text peers d at (Some an_item_word.List) s = list_text at d s
+item_text peers d at (Some an_item_word.From) s = policy_text peers Import d s
+item_text peers d at (Some an_item_word.To) s = policy_text peers Export d s
+item_text peers d at None s = Stop at awaited.Item
 
 -- a list or a policy, from its first word on
 abbrev pub item : ℕ → Draft → Token → Source → Reading Draft

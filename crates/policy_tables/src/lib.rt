@@ -23,20 +23,19 @@ pub enum Direction {
     Export,
 }
 
-/// Where the clauses of a policy stand in the pool; a policy that the text does not name has none.
+/// Where the clauses of a policy stand in the pool.
 #[derive(Clone, Copy)]
-struct Slot {
-    named: bool,
+struct Span {
     start: usize,
     count: usize,
 }
 
-/// The policies of one text: for each of 64 peers those for import, and then those for export.
+/// The policies of one text: for each of 64 peers those for import, and then those for export; a policy that the text does not name has no span.
 #[derive(Drop)]
 pub struct Policies {
     lists: Vec<PrefixList>,
     pool: Pool,
-    slots: [Slot; 128],
+    spans: [Option<Span>; 128],
     ghost roomy: { 64 ≤ vec_capacity lists },
-    ghost fitting: { all_fit (length (stored pool)) slots ≡ true },
+    ghost fitting: { all_fit (length (stored pool)) spans ≡ true },
 }

@@ -4,7 +4,6 @@ ghost use Rattle.policy_tables.specs.Meant.{content_of, named_of};
 ghost use Rattle.policy_tables.specs.Texts.{place_of, policy_for};
 ghost use Rattle.policy.specs.Meant.{policy_of, prefixes_of};
 
-use crate::laws::{fit_law, lookup_law, named_law};
 use crate::{Direction, Policies};
 use policy::{Clause, Policy, PrefixList};
 
@@ -17,17 +16,13 @@ impl Policies {
     }
 
     /// The peer's policy of that direction; one that the text does not name has no clauses.
+    #[tactic(auto, using(crate::proofs::Finding::clauses, crate::proofs::Finding::meant_clauses, std::proofs::lemmas::Grind::common_steps))]
     pub fn policy(&self, direction: Direction, peer: u8) -> Policy<'_>
         ensures { policy_of result ≡ policy_for (content_of self.now) direction peer }
     {
-        let _ = lookup_law();
-        let lists = self.lists.as_slice();
-        match self.clauses(direction, peer) {
-            Some(clauses) => Policy { clauses, lists },
-            None => Policy {
-                clauses: &[],
-                lists,
-            },
+        Policy {
+            clauses: self.clauses(direction, peer).unwrap_or(&[]),
+            lists: self.lists.as_slice(),
         }
     }
 
@@ -42,18 +37,13 @@ impl Policies {
     }
 
     /// The clauses of the policy at the place, if the text names it.
+    #[tactic(auto, using(crate::proofs::Finding::within, crate::proofs::Filling::at_place, std::proofs::lemmas::Grind::common_steps))]
     fn clauses_at(&self, place: usize) -> Option<&[Clause]>
         requires { place < 128 }
         ensures { named_of result ≡ slice_index_or (content_of self.now).policies place None }
     {
-        let _ = (fit_law(), named_law());
-        let slot = self.slots[place];
-        if !slot.named {
-            return None;
-        }
-        let start = slot.start;
-        let end = start + slot.count;
+        let span = self.spans[place]?;
         let clauses = self.pool.as_slice();
-        Some(&clauses[start..end])
+        Some(&clauses[span.start..span.start + span.count])
     }
 }

@@ -1,11 +1,9 @@
 //! Making, clearing and looking up policies.
-ghost use Rattle.std.specs.Prelude.{◌≡◌, ℕ, true, List, [], map, IfOk};
+ghost use Rattle.std.specs.Prelude.{◌≡◌, [], IfOk};
 ghost use Rattle.policy_tables.specs.Meant.{content_of, draft_of};
-ghost use Rattle.policy_tables.specs.Slots.{all_fit, slot_policy};
 ghost use Rattle.policy_tables.specs.Texts.{empty, nothing, place_of};
-ghost use Rattle.policy.specs.declared.Clause.{Clause};
 
-use crate::{Direction, Policies, Slot};
+use crate::{Direction, Policies};
 use policy_items::Pool;
 use std::alloc::{AllocError, Global};
 
@@ -19,7 +17,7 @@ impl Policies {
         Ok(Policies {
             lists,
             pool,
-            slots: free_slots(),
+            spans: [None; 128],
         })
     }
 
@@ -28,20 +26,9 @@ impl Policies {
         ensures { draft_of self.new [] ≡ empty }
     {
         self.lists.clear();
-        self.slots = free_slots();
+        self.spans = [None; 128];
         self.pool.clear();
     }
-}
-
-fn free_slots() -> [Slot; 128]
-    ensures fit { (n : ℕ) → all_fit n result ≡ true }
-    ensures free { (pool : List Clause) → map (slot_policy pool) result ≡ nothing.policies }
-{
-    [Slot {
-        named: false,
-        start: 0,
-        count: 0,
-    }; 128]
 }
 
 impl Direction {
@@ -50,8 +37,8 @@ impl Direction {
         ensures { result ≡ place_of self peer }
     {
         match self {
-            Direction::Import => peer as usize,
-            Direction::Export => 64 + peer as usize,
+            Direction::Import => usize::from(peer),
+            Direction::Export => 64 + usize::from(peer),
         }
     }
 }

@@ -74,13 +74,11 @@ fn cut(
     peers: u8,
     text: &[u8],
 ) -> io::Result<()> {
-    for count in 0..text.len() {
+    for count in 0..=text.len() {
         print!(rt; "{name} {count}")?;
-        read(rt, configuration, peers, &text[0..count])?;
+        read(rt, configuration, peers, &text[..count])?;
     }
-    let count = text.len();
-    print!(rt; "{name} {count}")?;
-    read(rt, configuration, peers, text)
+    Ok(())
 }
 
 /// Tries the row's route on a policy in force.

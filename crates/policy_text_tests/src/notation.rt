@@ -30,12 +30,12 @@ fn push_repeated(heap: Global, bytes: &mut Vec<u8>, repeated: &str) -> Result<()
 
 /// Adds a piece, in which `%` stands for the number.
 fn push_piece(heap: Global, bytes: &mut Vec<u8>, piece: &str, n: u32) -> Result<(), AllocError> {
-    for (i, part) in piece.split('\\').enumerate() {
-        if i == 0 {
-            push_plain(heap, bytes, part.as_bytes(), n)?;
-        } else {
-            push_escaped(heap, bytes, part.as_bytes(), n)?;
-        }
+    let mut parts = piece.split('\\');
+    if let Some(plain) = parts.next() {
+        push_plain(heap, bytes, plain.as_bytes(), n)?;
+    }
+    for part in parts {
+        push_escaped(heap, bytes, part.as_bytes(), n)?;
     }
     Ok(())
 }

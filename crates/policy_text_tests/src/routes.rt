@@ -15,28 +15,24 @@ pub struct Trial {
 pub fn trial_of(heap: Global, row: &str) -> Result<Option<Trial>, AllocError> {
     let mut words = row.split(' ').skip(1);
     let peer = words.next().unwrap_or("").parse::<u8>().unwrap_or(0);
-    let prefix = prefix_of(words.next().unwrap_or("").as_bytes());
+    let prefix = words.next().unwrap_or("");
     let asns = numbers(heap, words.next().unwrap_or(""))?;
     let local_pref = words.next().unwrap_or("").parse::<u32>().unwrap_or(0);
     let med = words.next().unwrap_or("").parse::<u32>().unwrap_or(0);
     let communities = numbers(heap, words.next().unwrap_or(""))?;
     let metrics = Metrics { local_pref, med };
-    let Some(prefix) = prefix else {
-        return Ok(None);
-    };
-    let Some(path) = Path::new(asns.as_slice()) else {
-        return Ok(None);
-    };
-    let Some(communities) = Communities::of(communities.as_slice()) else {
-        return Ok(None);
-    };
-    let route = Route {
-        prefix,
-        path,
+    let route = route_of(prefix, asns.as_slice(), metrics, communities.as_slice());
+    Ok(route.map(|route| Trial { peer, route }))
+}
+
+/// The route of these, if each of them may stand in one.
+fn route_of(prefix: &str, asns: &[u32], metrics: Metrics, communities: &[u32]) -> Option<Route> {
+    Some(Route {
+        prefix: prefix_of(prefix.as_bytes())?,
+        path: Path::new(asns)?,
         metrics,
-        communities,
-    };
-    Ok(Some(Trial { peer, route }))
+        communities: Communities::of(communities)?,
+    })
 }
 
 /// The numbers of a row, as `5,7*3`; `-` is none.

@@ -1,7 +1,8 @@
 -- The words of policy texts. Assumes nothing.
-use Rattle.std.specs.Prelude.{ℕ, ◌+◌, ◌-◌, ◌*◌, ◌^◌, Bool, true, false, cond, ◌&&◌, ◌||◌, List, [], ◌∷◌, Some, None, codes, Option, ◌==◌, nat_lt}
+use Rattle.std.specs.Prelude.{ℕ, ◌+◌, ◌-◌, ◌*◌, ◌^◌, Bool, false, cond, ◌&&◌, ◌||◌, List, [], ◌∷◌, Some, None, codes, Option, ◌==◌, nat_lt}
 use Rattle.prefix.specs.Prefix.{Prefix, is_prefix}
 use Rattle.std.specs.Char.{is_ascii_digit, is_ascii_alphabetic}
+use Rattle.std.specs.List.{list_all}
 use Rattle.std.specs.Str.{bytes_eq}
 use Rattle.policy_words.specs.declared.ItemWord as stored_item
 use Rattle.policy_words.specs.declared.ItemWord.TheVariants as of_item
@@ -15,49 +16,48 @@ use Rattle.policy_words.specs.declared.ActionWord as stored_action
 use Rattle.policy_words.specs.declared.ActionWord.TheVariants as of_action
 
 -- the word that begins a list or a policy
-abbrev pub item_word : List ℕ → stored_item.ItemWord
+abbrev pub item_word : List ℕ → Option stored_item.ItemWord
 item_word w =
-    cond (bytes_eq w (codes "list")) of_item.List
-    (cond (bytes_eq w (codes "from")) of_item.From
-    (cond (bytes_eq w (codes "to")) of_item.To of_item.Other))
+    cond (bytes_eq w (codes "list")) (Some of_item.List)
+    (cond (bytes_eq w (codes "from")) (Some of_item.From)
+    (cond (bytes_eq w (codes "to")) (Some of_item.To) None))
 
 -- the word that begins a part of a condition
-abbrev pub test_word : List ℕ → stored_test.TestWord
+abbrev pub test_word : List ℕ → Option stored_test.TestWord
 test_word w =
-    cond (bytes_eq w (codes "not")) of_test.Not
-    (cond (bytes_eq w (codes "any")) of_test.Any
-    (cond (bytes_eq w (codes "range")) of_test.Range
-    (cond (bytes_eq w (codes "passes")) of_test.Passes
-    (cond (bytes_eq w (codes "marked")) of_test.Marked
-    (cond (bytes_eq w (codes "longer")) of_test.Longer of_test.Other)))))
+    cond (bytes_eq w (codes "not")) (Some of_test.Not)
+    (cond (bytes_eq w (codes "any")) (Some of_test.Any)
+    (cond (bytes_eq w (codes "range")) (Some of_test.Range)
+    (cond (bytes_eq w (codes "passes")) (Some of_test.Passes)
+    (cond (bytes_eq w (codes "marked")) (Some of_test.Marked)
+    (cond (bytes_eq w (codes "longer")) (Some of_test.Longer) None)))))
 
 -- the word that stands behind `range`
-abbrev pub range_word : List ℕ → stored_range.RangeWord
+abbrev pub range_word : List ℕ → Option stored_range.RangeWord
 range_word w =
-    cond (bytes_eq w (codes "in")) of_range.In
-    (cond (bytes_eq w (codes "within")) of_range.Within of_range.Other)
+    cond (bytes_eq w (codes "in")) (Some of_range.In)
+    (cond (bytes_eq w (codes "within")) (Some of_range.Within) None)
 
 -- the word that stands behind a part of a condition
-abbrev pub joint_word : List ℕ → stored_joint.JointWord
+abbrev pub joint_word : List ℕ → Option stored_joint.JointWord
 joint_word w =
-    cond (bytes_eq w (codes "and")) of_joint.And
-    (cond (bytes_eq w (codes "then")) of_joint.Then of_joint.Other)
+    cond (bytes_eq w (codes "and")) (Some of_joint.And)
+    (cond (bytes_eq w (codes "then")) (Some of_joint.Then) None)
 
 -- the word that begins an action
-abbrev pub action_word : List ℕ → stored_action.ActionWord
+abbrev pub action_word : List ℕ → Option stored_action.ActionWord
 action_word w =
-    cond (bytes_eq w (codes "take")) of_action.Take
-    (cond (bytes_eq w (codes "leave")) of_action.Leave
-    (cond (bytes_eq w (codes "like")) of_action.Like
-    (cond (bytes_eq w (codes "far")) of_action.Far
-    (cond (bytes_eq w (codes "mark")) of_action.Mark
-    (cond (bytes_eq w (codes "unmark")) of_action.Unmark
-    (cond (bytes_eq w (codes "front")) of_action.Front of_action.Other))))))
+    cond (bytes_eq w (codes "take")) (Some of_action.Take)
+    (cond (bytes_eq w (codes "leave")) (Some of_action.Leave)
+    (cond (bytes_eq w (codes "like")) (Some of_action.Like)
+    (cond (bytes_eq w (codes "far")) (Some of_action.Far)
+    (cond (bytes_eq w (codes "mark")) (Some of_action.Mark)
+    (cond (bytes_eq w (codes "unmark")) (Some of_action.Unmark)
+    (cond (bytes_eq w (codes "front")) (Some of_action.Front) None))))))
 
 -- no byte is above 127
-unfoldable pub is_ascii : List ℕ → Bool
-is_ascii [] = true
-is_ascii (b ∷ bs) = nat_lt b 128 && is_ascii bs
+abbrev pub is_ascii : List ℕ → Bool
+is_ascii bs = list_all (λ b. nat_lt b 128) bs
 
 -- the number whose digits stand in front, after the digits of n, and the bytes behind them; none if it has more than 32 bits
 unfoldable pub leading_from : ℕ → List ℕ → Option (ℕ × List ℕ)
@@ -117,11 +117,7 @@ is_name_start b = is_ascii_alphabetic b || b == 95
 abbrev pub is_name_byte : ℕ → Bool
 is_name_byte b = is_name_start b || (is_ascii_digit b || b == 45)
 
-unfoldable pub are_name_bytes : List ℕ → Bool
-are_name_bytes [] = true
-are_name_bytes (b ∷ bs) = is_name_byte b && are_name_bytes bs
-
 -- the name of a list: a letter or `_`, and then letters, digits, `_` and `-`
 abbrev pub is_name : List ℕ → Bool
 is_name [] = false
-is_name (b ∷ bs) = is_name_start b && are_name_bytes bs
+is_name (b ∷ bs) = is_name_start b && list_all is_name_byte bs

@@ -2,14 +2,13 @@
 #![tactic(auto)]
 
 mod keywords;
-mod laws;
 mod names;
 mod numbers;
 mod prefixes;
 mod spelling;
 
 pub use keywords::{action_word, item_word, joint_word, range_word, test_word};
-pub use names::{is_name, is_same};
+pub use names::is_name;
 pub use numbers::number_of;
 pub use prefixes::prefix_of;
 pub use spelling::text_of;
@@ -20,7 +19,6 @@ pub enum ItemWord {
     List,
     From,
     To,
-    Other,
 }
 
 /// The words that begin a part of a condition.
@@ -32,7 +30,6 @@ pub enum TestWord {
     Passes,
     Marked,
     Longer,
-    Other,
 }
 
 /// The words behind `range`.
@@ -40,7 +37,6 @@ pub enum TestWord {
 pub enum RangeWord {
     In,
     Within,
-    Other,
 }
 
 /// The words behind a part of a condition.
@@ -48,7 +44,6 @@ pub enum RangeWord {
 pub enum JointWord {
     And,
     Then,
-    Other,
 }
 
 /// The words that begin an action.
@@ -61,5 +56,4 @@ pub enum ActionWord {
     Mark,
     Unmark,
     Front,
-    Other,
 }

@@ -5,7 +5,6 @@ ghost use Rattle.policy_words.specs.Words.{address_of, checked, octet, prefix_of
 ghost use Rattle.prefix.specs.Meant.{meant};
 ghost use Rattle.std.specs.Option.{option_map};
 
-use crate::laws::split_law;
 use crate::numbers::{leading, number_of};
 use prefix::Prefix;
 
@@ -24,10 +23,7 @@ pub fn prefix_of(word: &[u8]) -> Option<Prefix>
 fn prefix_from(address: u32, length: u32) -> Option<Prefix>
     ensures { option_map meant result ≡ checked address length }
 {
-    if length > 24 {
-        return None;
-    }
-    Prefix::new(address, length as u8)
+    Prefix::new(address, u8::try_from(length).ok()?)
 }
 
 fn address_of(a: u8, b: u8, c: u8, d: u8) -> u32
@@ -41,12 +37,9 @@ fn octet(bytes: &[u8], sign: u8) -> Option<(u8, &[u8])>
     ensures { lead_of result ≡ octet sign bytes.now }
 {
     let (number, rest) = leading(bytes)?;
-    let _ = split_law(rest);
-    let [first, behind @ ..] = rest else {
-        return None;
-    };
-    if number > 255 || *first != sign {
+    let (first, behind) = rest.split_first()?;
+    if *first != sign {
         return None;
     }
-    Some((number as u8, behind))
+    Some((u8::try_from(number).ok()?, behind))
 }

@@ -1,23 +1,21 @@
 -- The steps of scanning. Assumes nothing.
-use Rattle.std.proofs.Common.{◌≡◌, ℕ, zero, suc, ◌+◌, ◌-◌, ◌<◌, ◌≤◌, Bool, false, List, [], ◌∷◌, ◌++◌, length, get_or, take, drop, sym, refl, ap, ◌∙◌, ⊎_elim, arith, length-drop}
-use Rattle.std.proofs.lemmas.List.{at_drop_more, at_drop_all, take_all, take_more, get_or-drop}
-use Rattle.std.proofs.lemmas.Bool.{cases_lt}
+use Rattle.std.proofs.Common.{◌≡◌, ℕ, zero, suc, ◌+◌, ◌-◌, ◌<◌, ◌≤◌, Bool, true, false, List, [], ◌∷◌, ◌++◌, length, get_or, take, drop, sym, refl, ap, ◌∙◌, ⊎_elim, arith, length-drop}
+use Rattle.std.proofs.lemmas.List.{at_drop_more, at_drop_all, take_more, get_or-drop}
+use Rattle.std.proofs.lemmas.List.Folds.{length-prefix_len}
+use Rattle.std.proofs.lemmas.List.Sums.{prefix_len-drop_yes, prefix_len-le-length, prefix_len_passes, prefix_len_stops}
+use Rattle.std.proofs.lemmas.Bool.{cases_lt, false≢true}
+use Rattle.std.specs.List.{prefix_len, take_while}
 use Rattle.text_tokens.specs.declared.Class.{Class}
 use Rattle.text_tokens.specs.declared.Class.TheVariants.{Blank, LineEnd, Hash, Sign, Letter}
-use Rattle.text_tokens.specs.Steps.{PlaceSteps, ScanSteps, WordSteps}
-use Rattle.text_tokens.specs.Places.{place_from}
-use Rattle.text_tokens.specs.Tokens.{Source, Mode, Between, InWord, Run, class_of, after, whole, worded, ended, scan}
+use Rattle.text_tokens.specs.Tokens.{Source, Mode, Between, InWord, Run, class_of, is_letter, is_letter_class, after, whole, worded, ended, scan}
 
-none : (m : Mode) (n : ℕ) (text : List ℕ) → length text ≤ n → scan m n (drop n text) ≡ ended m n
+pub scan_none : (m : Mode) (n : ℕ) (text : List ℕ) → length text ≤ n → scan m n (drop n text) ≡ ended m n
 unfolding scan
-none m n text h = at_drop_all (scan m n) text n h
+scan_none m n text h = at_drop_all (scan m n) text n h
 
-more : (m : Mode) (n : ℕ) (text : List ℕ) → n < length text → scan m n (drop n text) ≡ whole m n (class_of (get_or text n 0)) (scan (after m n (get_or text n 0) (class_of (get_or text n 0))) (n + 1) (drop (n + 1) text))
+pub scan_more : (m : Mode) (n : ℕ) (text : List ℕ) → n < length text → scan m n (drop n text) ≡ whole m n (class_of (get_or text n 0)) (scan (after m n (get_or text n 0) (class_of (get_or text n 0))) (n + 1) (drop (n + 1) text))
 unfolding scan
-more m n text h = at_drop_more (scan m n) text n 0 h
-
-pub scan_steps : ScanSteps
-scan_steps = record { none = none; more = more }
+scan_more m n text h = at_drop_more (scan m n) text n 0 h
 
 -- a byte of the class c that is no letter ends a word
 stop : (s n b : ℕ) (f : Bool) (w : List ℕ) (c : Class) (rest : Mode → Source) → (c ≡ Letter → ⊥) → whole (InWord s f w) n c (rest (after (InWord s f w) n b c)) ≡ worded s f w (whole (Between false) n c (rest (after (Between false) n b c)))
@@ -41,8 +39,8 @@ module _ (text : List ℕ) (start end : ℕ) (fresh : Bool) (run : Run text star
   at_end_lem : scan (InWord start fresh (bytes end)) end (drop end text) ≡ worded start fresh (bytes end) (scan (Between false) end (drop end text))
   at_end_lem =
       ⊎_elim
-      (λ h. more (InWord start fresh (bytes end)) end text h ∙ stop start end (get_or text end 0) fresh (bytes end) (class_of (get_or text end 0)) (λ m. scan m (end + 1) (drop (end + 1) text)) (run.stops h) ∙ ap (worded start fresh (bytes end)) (sym (more (Between false) end text h)))
-      (λ h. none (InWord start fresh (bytes end)) end text h ∙ ap (worded start fresh (bytes end)) (sym (none (Between false) end text h)))
+      (λ h. scan_more (InWord start fresh (bytes end)) end text h ∙ stop start end (get_or text end 0) fresh (bytes end) (class_of (get_or text end 0)) (λ m. scan m (end + 1) (drop (end + 1) text)) (run.stops h) ∙ ap (worded start fresh (bytes end)) (sym (scan_more (Between false) end text h)))
+      (λ h. scan_none (InWord start fresh (bytes end)) end text h ∙ ap (worded start fresh (bytes end)) (sym (scan_none (Between false) end text h)))
       (cases_lt end (length text))
 
   goes : (d k : ℕ) → k + d ≡ end → start < k → scan (InWord start fresh (bytes k)) k (drop k text) ≡ worded start fresh (bytes end) (scan (Between false) end (drop end text))
@@ -51,7 +49,7 @@ module _ (text : List ℕ) (start end : ℕ) (fresh : Bool) (run : Run text star
       let within : k < length text = omega (arith, run.within) in
       let before : k < end = omega arith in
       let m : Mode = InWord start fresh (bytes k) in
-      more m k text within
+      scan_more m k text within
       ∙ ap (λ c. whole m k c (scan (after m k (get_or text k 0) c) (k + 1) (drop (k + 1) text))) (run.all k (omega arith) before)
       ∙ ap (λ w. scan (InWord start fresh w) (k + 1) (drop (k + 1) text)) (letter k (omega arith) before)
       ∙ goes d (k + 1) (omega arith) (omega arith)
@@ -62,14 +60,35 @@ module _ (text : List ℕ) (start end : ℕ) (fresh : Bool) (run : Run text star
       let within : start < length text = omega (arith, run.within, run.some) in
       let m : Mode = Between fresh in
       let none_yet : start - start ≡ 0 = omega arith in
-      more m start text within
+      scan_more m start text within
       ∙ ap (λ c. whole m start c (scan (after m start (get_or text start 0) c) (start + 1) (drop (start + 1) text))) (run.all start (omega arith) run.some)
       ∙ ap (λ w. scan (InWord start fresh w) (start + 1) (drop (start + 1) text)) (ap (λ i. take i (drop start text) ++ (get_or text start 0 ∷ [])) (sym none_yet) ∙ letter start (omega arith) run.some)
       ∙ goes (end - (start + 1)) (start + 1) (omega (arith, run.some)) (omega arith)
 
-pub word_steps : WordSteps
-word_steps = record { word = word }
+letter_is : (c : Class) → is_letter_class c ≡ true → c ≡ Letter
+letter_is Letter h = refl
+letter_is Blank h = absurd (false≢true h)
+letter_is LineEnd h = absurd (false≢true h)
+letter_is Hash h = absurd (false≢true h)
+letter_is (Sign s) h = absurd (false≢true h)
 
-pub place_steps : PlaceSteps
-unfolding place_from
-place_steps = record { none = λ p. refl; more = λ p b bs. refl; all = take_all }
+-- the letters from one on are a word
+pub run_of : (text : List ℕ) (start n : ℕ) → start < length text → class_of (get_or text start 0) ≡ Letter → n ≡ length (take_while is_letter (drop start text)) → Run text start (start + n)
+run_of text start n within first e =
+    let rest : List ℕ = drop start text in
+    let same : n ≡ prefix_len is_letter rest = e ∙ length-prefix_len is_letter rest in
+    let at : (k : ℕ) → get_or rest k 0 ≡ get_or text (start + k) 0 = λ k. get_or-drop start text k 0 in
+    record {
+      some = omega (arith, same, prefix_len-drop_yes is_letter text start 0 within (ap is_letter_class first));
+      within = omega (arith, same, within, prefix_len-le-length is_letter rest, length-drop start text);
+      all = λ k h l.
+          let there : start + (k - start) ≡ k = omega arith in
+          letter_is _ (sym (ap is_letter (at (k - start) ∙ ap (λ i. get_or text i 0) there)) ∙ prefix_len_passes is_letter rest (k - start) 0 (omega (arith, same)));
+      stops = λ h l.
+          let no = prefix_len_stops is_letter rest 0 (omega (arith, same, length-drop start text)) in
+          absurd (false≢true (sym (ap (λ i. is_letter (get_or rest i 0)) same ∙ no) ∙ ap is_letter (at n) ∙ ap is_letter_class l));
+    }
+
+-- a word is one token
+pub scan_word : (text : List ℕ) (start end : ℕ) (fresh : Bool) → Run text start end → scan (Between fresh) start (drop start text) ≡ worded start fresh (take (end - start) (drop start text)) (scan (Between false) end (drop end text))
+scan_word text start end fresh run = word text start end fresh run

@@ -104,6 +104,17 @@ Begins Hash = ⊥
 Begins (a_class.Sign s) = Unit {0}
 Begins Letter = Unit {0}
 
+-- a byte that can stand in a word
+abbrev pub is_letter_class : stored.Class → Bool
+is_letter_class Blank = false
+is_letter_class LineEnd = false
+is_letter_class Hash = false
+is_letter_class (a_class.Sign s) = false
+is_letter_class Letter = true
+
+abbrev pub is_letter : ℕ → Bool
+is_letter b = is_letter_class (class_of b)
+
 -- the bytes from start up to end are those of a word, and the word goes no further
 pub record Run (text : List ℕ) (start end : ℕ) : Type 0 where
   pub some : start < end

@@ -1,11 +1,10 @@
 //! What stands between tokens: blanks, ends of lines, comments.
-ghost use Rattle.std.specs.Prelude.{◌≡◌, ◌+◌, ◌<◌, length, drop, MatchOption, slice_index};
+ghost use Rattle.std.specs.Prelude.{◌≡◌, ◌<◌, ℕ, length, drop, MatchOption, slice_index};
 ghost use Rattle.text_tokens.specs.Meant.{Begun, mode_of};
-ghost use Rattle.text_tokens.specs.Tokens.{Begins, Between, class_of, scan};
+ghost use Rattle.text_tokens.specs.Tokens.{Begins, Between, Source, after, class_of, scan, whole};
 
 use crate::Class;
 use crate::classes::class_of;
-use crate::laws::scan_law;
 
 /// What the bytes since the last token have begun, with whether no token stands on the line yet.
 #[derive(Clone, Copy)]
@@ -19,47 +18,41 @@ impl Gap {
         ensures { result ≡ elim self [ Gap.Blank f ↦ f | Gap.Comment f ↦ f ] }
     {
         match self {
-            Gap::Blank { fresh } => fresh,
-            Gap::Comment { fresh } => fresh,
+            Gap::Blank { fresh } | Gap::Comment { fresh } => fresh,
         }
     }
 
-    /// The gap with the byte at the offset; none where a token begins there.
-    fn with(self, text: &[u8], at: usize) -> Option<Gap>
-        requires { at < length text.now }
-        ensures { MatchOption result (Begun self (class_of (slice_index text.now at))) (λ gap. scan (mode_of self) at (drop at text.now) ≡ scan (mode_of gap) (at + 1) (drop (at + 1) text.now)) }
+    /// The gap with one byte more; none where a token begins with it.
+    fn with(self, byte: u8) -> Option<Gap>
+        ensures { MatchOption result (Begun self (class_of byte)) (λ gap. (n : ℕ) (rest : Source) → (whole (mode_of self) n (class_of byte) rest ≡ rest) × (after (mode_of self) n byte (class_of byte) ≡ mode_of gap)) }
     {
-        let _ = scan_law();
         match self {
-            Gap::Blank { fresh } => match class_of(text[at]) {
-                Class::Blank => Some(Gap::Blank { fresh }),
+            Gap::Blank { fresh } => match class_of(byte) {
+                Class::Blank => Some(self),
                 Class::LineEnd => Some(Gap::Blank { fresh: true }),
                 Class::Hash => Some(Gap::Comment { fresh }),
-                Class::Sign(_) => None,
-                Class::Letter => None,
+                Class::Sign(_) | Class::Letter => None,
             },
-            Gap::Comment { fresh } => match class_of(text[at]) {
+            Gap::Comment { .. } => match class_of(byte) {
                 Class::LineEnd => Some(Gap::Blank { fresh: true }),
-                _ => Some(Gap::Comment { fresh }),
+                _ => Some(self),
             },
         }
     }
 }
 
 /// Where the next token begins, or the text ends, and whether no token stands on that line before it.
+#[tactic(auto, using(crate::proofs::Scanning::scan_more, crate::proofs::Scanning::scan_none))]
 pub(crate) fn skip(text: &[u8], start: usize, fresh: bool) -> (usize, bool)
     ensures same { scan (Between fresh) start (drop start text.now) ≡ scan (Between result.1) result.0 (drop result.0 text.now) }
     ensures begins { result.0 < length text.now → Begins (class_of (slice_index text.now result.0)) }
 {
-    let _ = scan_law();
     let mut gap = Gap::Blank { fresh };
-    let mut at = start;
-    while at < text.len() {
-        let Some(longer) = gap.with(text, at) else {
-            break;
+    for at in start..text.len() {
+        let Some(longer) = gap.with(text[at]) else {
+            return (at, gap.fresh());
         };
         gap = longer;
-        at += 1;
     }
-    (at, gap.fresh())
+    (start.max(text.len()), gap.fresh())
 }

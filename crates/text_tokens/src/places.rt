@@ -1,32 +1,23 @@
 //! Lines and columns.
-ghost use Rattle.std.specs.Prelude.{◌≡◌, ◌+◌, ◌^◌, ◌<◌, ◌≤◌, length};
+ghost use Rattle.std.specs.Prelude.{◌≡◌, ◌+◌, ◌^◌, ◌<◌};
 ghost use Rattle.text_tokens.specs.Places.{after, place_from, place_of};
 
 use crate::Place;
-use crate::laws::place_law;
-use rows::{ends, unrolls};
 
 impl Place {
     /// Where the byte at the offset stands in the text; an offset past the end is taken as the end.
     pub fn of(text: &[u8], offset: usize) -> Place
         ensures { result ≡ place_of text.now offset }
     {
-        let _ = place_law();
-        if offset < text.len() {
-            Place::behind(&text[0..offset])
-        } else {
-            Place::behind(text)
-        }
+        Place::behind(&text[..offset.min(text.len())])
     }
 
     /// The place behind the bytes.
     fn behind(bytes: &[u8]) -> Place
         ensures { result ≡ place_from (record { line = 1; column = 1 }) bytes.now }
     {
-        let _ = (place_law(), ends(bytes));
         let mut place = Place { line: 1, column: 1 };
-        for (i, byte) in bytes.iter().enumerate() {
-            let _ = unrolls(bytes, i, byte);
+        for byte in bytes {
             place = place.after(*byte);
         }
         place
@@ -44,8 +35,8 @@ impl Place {
             }
         } else {
             Place {
-                line: self.line,
                 column: self.column + 1,
+                ..self
             }
         }
     }

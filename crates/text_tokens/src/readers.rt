@@ -1,11 +1,10 @@
 //! Pulling one token at a time.
-ghost use Rattle.std.specs.Prelude.{◌≡◌, ◌<◌, true, false, length, drop, slice_index};
+ghost use Rattle.std.specs.Prelude.{◌≡◌, ◌<◌, false, length, drop, slice_index, take_while};
 ghost use Rattle.text_tokens.specs.Meant.{left, pulled, pulled_as};
-ghost use Rattle.text_tokens.specs.Tokens.{Begins, Between, Run, class_of, scan, tokens};
+ghost use Rattle.text_tokens.specs.Tokens.{Begins, Between, Run, class_of, is_letter, scan, tokens};
 
 use crate::classes::class_of;
 use crate::gaps::skip;
-use crate::laws::{scan_law, word_law};
 use crate::{Class, Kind, Reader, Token};
 
 impl<'a> Reader<'a> {
@@ -34,11 +33,11 @@ impl<'a> Reader<'a> {
 }
 
 /// The token that begins at the offset, and the offset behind it.
+#[tactic(auto, using(crate::proofs::Scanning::scan_more, crate::proofs::Scanning::scan_none, crate::proofs::Scanning::scan_word))]
 fn kind_at<'a>(text: &'a [u8], at: usize, fresh: bool) -> (Kind<'a>, usize)
     requires { at < length text.now → Begins (class_of (slice_index text.now at)) }
     ensures { scan (Between fresh) at (drop at text.now) ≡ pulled_as at fresh result.0 (scan (Between false) result.1 (drop result.1 text.now)) }
 {
-    let _ = (scan_law(), word_law());
     if at >= text.len() {
         return (Kind::End, at);
     }
@@ -54,12 +53,18 @@ fn word_end(text: &[u8], start: usize) -> usize
     requires { (start < length text.now) × (class_of (slice_index text.now start) ≡ Class.Letter) }
     ensures { Run text.now start result }
 {
-    let mut end = start + 1;
-    while end < text.len() {
-        let Class::Letter = class_of(text[end]) else {
-            break;
-        };
-        end += 1;
-    }
-    end
+    start + letters(&text[start..])
+}
+
+/// How many bytes in front can stand in a word.
+fn letters(bytes: &[u8]) -> usize
+    ensures { result ≡ length (take_while is_letter bytes.now) }
+{
+    bytes.iter().take_while(|byte| is_letter(**byte)).count()
+}
+
+fn is_letter(byte: u8) -> bool
+    ensures { result ≡ is_letter byte }
+{
+    matches!(class_of(byte), Class::Letter)
 }

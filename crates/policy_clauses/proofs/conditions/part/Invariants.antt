@@ -1,7 +1,7 @@
 use Rattle.std.proofs.Common.{◌≡◌, false}
 use Rattle.policy_clauses.specs.Meant.{names_of}
 use Rattle.policy_clauses.specs.Reading.{part}
-use Rattle.policy_clauses.specs.Steps.{size}
+use Rattle.policy_clauses.specs.Sizes.{size}
 use Rattle.text_tokens.specs.Meant.{left}
 use Rattle.policy_clauses.proofs.conditions.part.Given as goal
 

@@ -3,5 +3,5 @@ use Rattle.policy_tables.specs.Meant.{content_of}
 use Rattle.policy_print_laws.proofs.Whole.{anew}
 use Rattle.policy_print_laws.proofs.reprints.reprint.Goals as goal
 
-pub returns-in-Ok : goal.returns-in-Ok
-returns-in-Ok c = anew c.args.peers c.args.text.now (string_bytes c.in-Ok.anew) (content_of c.read.new.self) (search rules) (search rules)
+pub returns : goal.returns
+returns c = anew c.args.peers c.args.text.now (string_bytes c.in_ok-print.field-0) (content_of c.read.new.self) (search rules) (search rules)

@@ -1,7 +1,10 @@
-use Rattle.std.proofs.Common.{◌≡◌, drop}
+use Rattle.std.proofs.Common.{◌≡◌, length}
 use Rattle.policy_words.specs.Words.{leading, leading_from}
 use Rattle.policy_words.proofs.numbers.leading.Given as goal
 
 -- the digits that are left decide
-abbrev pub invariant-loop-i : goal.invariant-loop-i
-invariant-loop-i l = leading_from l.number (drop l.i l.bytes) ≡ leading l.bytes
+abbrev pub invariant-loop-digit : goal.invariant-loop-digit
+invariant-loop-digit l = leading_from l.number l.left ≡ leading l.bytes
+
+abbrev pub decreases-loop-digit : goal.decreases-loop-digit
+decreases-loop-digit l = length l.left

@@ -1,6 +1,8 @@
-use Rattle.std.proofs.Common.{◌≡◌, get_or, ap, ◌∙◌, arith}
-use Rattle.text_tokens.specs.Tokens.{class_of}
+use Rattle.std.proofs.Common.{length, ap, ◌∙◌, take_while}
+use Rattle.std.proofs.lemmas.List.{take_rest}
+use Rattle.text_tokens.specs.Tokens.{is_letter}
+use Rattle.text_tokens.proofs.Scanning.{run_of}
 use Rattle.text_tokens.proofs.readers.word_end.Goals as goal
 
-pub loop-end-init : goal.loop-end-init
-loop-end-init c = (omega arith, (omega arith, λ k h l. let e : k ≡ c.args.start = omega arith in ap (λ i. class_of (get_or c.args.text.now i 0)) e ∙ c.requires.1))
+pub returns : goal.returns
+returns c = run_of c.args.text.now c.args.start c.letters.result c.requires.0 c.requires.1 (c.letters.ensures ∙ ap (λ bs. length (take_while is_letter bs)) (take_rest c.args.text.now c.args.start))

@@ -1,0 +1,16 @@
+-- A row of names, and one name more. Assumes nothing.
+use Rattle.std.proofs.Common.{◌≡◌, ℕ, ◌+◌, ◌<◌, ◌≤◌, List, [], ◌∷◌, ◌++◌, map, length, take, set, Some, cond, refl, ap, ◌∙◌}
+use Rattle.std.proofs.lemmas.List.{length-map, map_push, length-take-le, take_more_set}
+use Rattle.std.specs.Borrow.{Bor}
+use Rattle.std.specs.List.{position_from}
+use Rattle.std.specs.Str.{bytes_eq}
+
+pub so_many : (xs : List (Bor (List ℕ))) (n : ℕ) → n ≤ length xs → length (map (λ x. x.now) (take n xs)) ≡ n
+so_many xs n h = length-map (take n xs) (λ x. x.now) ∙ length-take-le n xs h
+
+pub one_more : (xs : List (Bor (List ℕ))) (n : ℕ) (x : Bor (List ℕ)) → n < length xs → map (λ y. y.now) (take (n + 1) (set xs n x)) ≡ map (λ y. y.now) (take n xs) ++ (x.now ∷ [])
+one_more xs n x h = ap (map (λ y. y.now)) (take_more_set xs n x h) ∙ map_push (λ y. y.now) (take n xs) x
+
+pub meant_place : (name : List ℕ) (i : ℕ) (xs : List (Bor (List ℕ))) → position_from (λ x. bytes_eq name x.now) i xs ≡ position_from (λ x. bytes_eq name x) i (map (λ x. x.now) xs)
+meant_place name i [] = refl
+meant_place name i (x ∷ xs) = ap (cond (bytes_eq name x.now) (Some i)) (meant_place name (i + 1) xs)
