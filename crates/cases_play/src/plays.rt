@@ -117,7 +117,7 @@ fn play_community<'a, R: Rib>(
     texts: &'a Texts,
 ) {
     if let Some(mut route) = by(&[7, 9], eight()) {
-        route.communities.add(7);
+        let _ = route.communities.add(7);
         server.announce(printer, 1, &route);
     }
     printer.last();
@@ -213,7 +213,7 @@ fn eight() -> Prefix
 pub fn nine() -> PrefixList {
     let mut list = PrefixList::new();
     for k in 1..10 {
-        list.push(prefix_or_whole(167_772_160 + k * 65_536, 16));
+        let _ = list.push(prefix_or_whole(167_772_160 + k * 65_536, 16));
     }
     list
 }

@@ -136,7 +136,7 @@ fn clause(test: Test, action: Action) -> Clause
     ensures { (parts_of result.condition ≡ (record { negated = false; test = test }) ∷ []) × (result.action ≡ action) }
 {
     let mut condition = Condition::new();
-    condition.push(Part {
+    let _ = condition.push(Part {
         negated: false,
         test,
     });

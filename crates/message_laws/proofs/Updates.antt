@@ -76,7 +76,7 @@ record Tail (peer : Peer) (cs : List ℕ) (tail : List (List ℕ)) : Type 0 wher
   said : sorted (numbers (value_at 8 tail)) ≡ cs
 
 tail_none : (peer : Peer) (cs : List ℕ) → length cs ≡ 0 → Tail peer cs []
-unfolding repeats is_in some value_at numbers sorted
+unfolding repeats some value_at numbers sorted
 tail_none peer cs h =
     let none = attribute_steps.no_communities cs h in
     record {
@@ -107,7 +107,7 @@ module _ (peer : Peer) (cs : List ℕ) (fit : Fit cs) (some-there : 0 < length c
   row_valid = ap (λ l. ltb 8 (length l)) (numbers_back cs fit) ∙ grind (arith, nat_tests)
 
   tail_some : rising cs ≡ true → Tail peer cs (row ∷ [])
-  unfolding repeats is_in some value_at
+  unfolding repeats some value_at
   tail_some r =
       let one = attribute_steps.communities cs some-there in
       record {
@@ -179,7 +179,6 @@ module _ (r : Route) (hop : ℕ) (s : Sendable r) (h : hop < 4294967296) (tail :
       ∙ ap (λ c. record { path = r.path; med = r.med; communities = c }) t.said
 
   there_all : (b : Bool) → (b && not (is_in 2 (types_of all) && is_in 3 (types_of all))) ≡ false
-  unfolding is_in
   there_all true = refl
   there_all false = refl
 

@@ -23,7 +23,6 @@ within n (x ∷ xs) zero s h e = let p = both (fits n x) (all_fit n xs) h in leb
 within n (x ∷ xs) (suc i) s h e = let p = both (fits n x) (all_fit n xs) h in within n xs i s p.1 e
 
 list_at_lem : (ls : List PrefixList) (i : ℕ) → list_at ls i ≡ get_or (map prefixes_of ls) i []
-unfolding list_at
 list_at_lem [] i = refl
 list_at_lem (l ∷ ls) zero = refl
 list_at_lem (l ∷ ls) (suc i) = list_at_lem ls i

@@ -203,7 +203,7 @@ some_of types [] = false
 some_of types (t ∷ ts) = types t || some_of types ts
 
 some_with : (t : ℕ) (types : ℕ → Bool) (ts : List ℕ) → some_of (with_type t types) ts ≡ (is_in t ts || some_of types ts)
-unfolding some_of with_type is_in
+unfolding some_of with_type
 some_with t types [] = refl
 some_with t types (u ∷ ts) =
     let more = some_with t types ts in
@@ -313,7 +313,7 @@ record Good (peer : Peer) (types : ℕ → Bool) (rest : List (List ℕ)) : Type
 module _ (peer : Peer) {X : Type 0} (n : ℕ) (G : Found → X) (w : List ℕ → X) (step : (f : Found) (a : List ℕ) → f.types (type_of a) ≡ false → is_malformed a ≡ false → is_invalid peer a ≡ false → is_foreign peer a ≡ false → G (add peer f a) ≡ cond (eqb (type_of a) n) (w (value_of a)) (G f)) where
   -- a value that attributes of a type bring is that of the one there is
   all_values : (f : Found) (rest : List (List ℕ)) → Good peer f.types rest → G (add_all peer f rest) ≡ cond (is_in n (types_of rest)) (w (value_at n rest)) (G f)
-  unfolding add_all repeats_after some is_in value_at
+  unfolding add_all repeats_after some value_at
   all_values f [] good = refl
   all_values f (a ∷ rest) good =
       let later = or_second (f.types (type_of a)) (repeats_after (with_type (type_of a) f.types) (types_of rest)) good.once in
@@ -337,7 +337,7 @@ or_default false x y h = sym (h refl)
 
 -- an attribute that is not there has no bytes
 absent : (n : ℕ) (rest : List (List ℕ)) → is_in n (types_of rest) ≡ false → value_at n rest ≡ []
-unfolding is_in value_at
+unfolding value_at
 absent n [] e = refl
 absent n (a ∷ rest) e =
     let more = absent n rest in
