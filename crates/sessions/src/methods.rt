@@ -4,7 +4,7 @@ ghost use Rattle.model.specs.Model.{at};
 ghost use Rattle.peers.specs.Members.{is_member};
 ghost use Rattle.session.specs.Meant.{session_of};
 ghost use Rattle.session.specs.Session.{down, is_silent, sent_now};
-ghost use Rattle.sessions.specs.Sessions.{sent_to, sessions_later, sessions_of, silent_in};
+ghost use Rattle.sessions.specs.Sessions.{Changes, sent_to, sessions_later, sessions_of, silent_in};
 
 use crate::{COUNT, Sessions};
 use peers::PeerSet;
@@ -32,6 +32,15 @@ impl Sessions {
         ensures { (i : ℕ) → sessions_of self.new i ≡ at peer (session_of session) (sessions_of self.old) i }
     {
         self.row[usize::from(peer)] = session;
+    }
+
+    /// The session of a peer becomes what the step makes of it.
+    pub fn change<F: FnOnce(Session) -> Session>(&mut self, peer: u8, step: F)
+        requires { F.IsAlwaysCallable step }
+        ensures { Changes F.post step peer self.old self.new }
+    {
+        let session = self.get(peer);
+        self.set(peer, step(session));
     }
 
     /// A second passes: the sessions whose time ran out go down. Which peers' these are is the answer.

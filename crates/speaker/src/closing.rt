@@ -12,6 +12,7 @@ use fault::Fault;
 use outbox::{Outbox, Output};
 use peers::PeerSet;
 use rib::Rib;
+use session::Session;
 
 impl<R: Rib, O: Output> Speaker<R, O> {
     /// Takes the session of a peer down for a fault: the peer is told which, and all others what is new.
@@ -37,8 +38,7 @@ impl<R: Rib, O: Output> Speaker<R, O> {
         requires { NotDown self.old peer }
         ensures { Does R.Rib.received O.Output.writes peer (going_down peer []) self.old self.new }
     {
-        let session = self.sessions.get(peer);
-        self.sessions.set(peer, session.down());
+        self.sessions.change(peer, Session::down);
         self.server
             .take_down(&mut self.outbox, &PeerSet::only(peer));
     }
