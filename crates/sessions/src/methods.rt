@@ -49,6 +49,7 @@ impl Sessions {
         ensures silent { (i : ℕ) → is_member result i ≡ (nat_lt i 64 && silent_in (sessions_of self.old) i) }
     {
         let mut silent = PeerSet::none();
+        // By number, as in `sent_to`: of what is written through `iter_mut` a proof knows nothing.
         for peer in 0..=u8::MAX {
             let session = self.get(peer).tick();
             silent.set(peer, session.is_silent());
