@@ -1,6 +1,7 @@
 -- What putting a frame out does to an outbox. Assumes nothing.
 use Rattle.std.specs.Prelude.{◌≡◌, ℕ, ◌<◌, Bool, false, ◌||◌, List, [], Some}
 use Rattle.message_laws.specs.RoundTrip.{Sendable}
+use Rattle.model.specs.Chain.{Chain}
 use Rattle.model.specs.Updates.{Update}
 use Rattle.outbox.specs.Frames.{Frame, frame_bytes, update_frame, reaches}
 use Rattle.outbox.specs.declared.Outbox.{Outbox}
@@ -32,6 +33,13 @@ pub record Puts {O : Type 0} (W : O → List ℕ → O → Type 0) (s : Box O) (
   pub reached : (j : ℕ) → j < most_peers → t.reached j ≡ (reaches j f || s.reached j)
   pub own : t.own ≡ s.own
   pub address : t.address ≡ s.address
+
+-- the same of outboxes, and of a row of frames
+abbrev pub PutsBy : {O : Type 0} → (O → List ℕ → O → Type 0) → Outbox O → Frame → Outbox O → Type 0
+PutsBy W s f t = Puts W (box_of s) f (box_of t)
+
+abbrev pub PutsAll : {O : Type 0} → (O → List ℕ → O → Type 0) → Outbox O → List Frame → Outbox O → Type 0
+PutsAll W s fs t = Chain (Puts W) (box_of s) fs (box_of t)
 
 -- what is held back was handed on: no byte more was written, and all else is as it was
 pub record Flushes {O : Type 0} (W : O → List ℕ → O → Type 0) (s t : Box O) : Type 0 where

@@ -5,7 +5,7 @@ ghost use Rattle.message_write.specs.Written.{keepalive_bytes, notification_byte
 ghost use Rattle.outbox.specs.Frames.{Carries, Closes};
 ghost use Rattle.outbox.specs.Laws.{OutboxLaws};
 ghost use Rattle.outbox.specs.Message.{bytes_of};
-ghost use Rattle.outbox.specs.Outbox.{Begun, Flushes, Puts, SendsBy, box_of};
+ghost use Rattle.outbox.specs.Outbox.{Begun, Flushes, PutsBy, SendsBy, box_of};
 ghost use Rattle.peers.specs.Members.{is_member};
 
 use crate::framing::{Kind, Message, ROOM, frame};
@@ -66,34 +66,34 @@ impl<O: Output> Outbox<O> {
 
     /// The server's OPEN.
     pub fn open(&mut self, peer: u8)
-        ensures { Puts O.Output.writes (box_of self.old) (Carries peer (open_bytes self.old.own_asn self.old.address)) (box_of self.new) }
+        ensures { PutsBy O.Output.writes self.old (Carries peer (open_bytes self.old.own_asn self.old.address)) self.new }
     {
         self.carry(peer, &Message::Open);
     }
 
     pub fn keepalive(&mut self, peer: u8)
-        ensures { Puts O.Output.writes (box_of self.old) (Carries peer keepalive_bytes) (box_of self.new) }
+        ensures { PutsBy O.Output.writes self.old (Carries peer keepalive_bytes) self.new }
     {
         self.carry(peer, &Message::Keepalive);
     }
 
     /// A NOTIFICATION that says for which fault the session ends.
     pub fn notify(&mut self, peer: u8, fault: Fault)
-        ensures { Puts O.Output.writes (box_of self.old) (Carries peer (notification_bytes (code fault))) (box_of self.new) }
+        ensures { PutsBy O.Output.writes self.old (Carries peer (notification_bytes (code fault))) self.new }
     {
         self.carry(peer, &Message::Notification(fault));
     }
 
     /// The server takes the peer's session down.
     pub fn close(&mut self, peer: u8)
-        ensures { Puts O.Output.writes (box_of self.old) (Closes peer) (box_of self.new) }
+        ensures { PutsBy O.Output.writes self.old (Closes peer) self.new }
     {
         self.output.write(&[Kind::Closes.into(), peer]);
     }
 
     /// Carries a message to the peer.
     fn carry(&mut self, peer: u8, message: &Message)
-        ensures { Puts O.Output.writes (box_of self.old) (Carries peer (bytes_of self.old.own_asn self.old.address message.now)) (box_of self.new) }
+        ensures { PutsBy O.Output.writes self.old (Carries peer (bytes_of self.old.own_asn self.old.address message.now)) self.new }
     {
         let mut buffer = [0; ROOM];
         let frame = frame(&mut buffer, peer, message, self.own_asn, self.address);

@@ -1,11 +1,13 @@
 -- Rows of sessions. Assumes nothing.
 use Rattle.std.proofs.Common.{◌≡◌, ℕ, ◌+◌, ◌<◌, ◌≤◌, Bool, false, cond, ◌&&◌, eqb, ltb, List, length, get_or, slice_index_or, set, replicate, sym, refl, ap, ◌∙◌, ⊎_elim, arith}
 use lib.ListN.{length-replicate}
+use Rattle.model.specs.Model.{at}
 use Rattle.session.specs.Meant.{session_of}
 use Rattle.session.specs.Session.{Session, down, ticked, sent_now, is_silent}
 use Rattle.session.specs.declared.Phase.TheVariants.{Down}
 use Rattle.session.specs.declared.Session.{Session as Stored}
-use Rattle.sessions.specs.Sessions.{session_at, silent_in, sessions_later, sent_to}
+use Rattle.sessions.specs.declared.Sessions.{Sessions}
+use Rattle.sessions.specs.Sessions.{Changes, sessions_of, session_at, silent_in, sessions_later, sent_to}
 use Rattle.std.proofs.lemmas.List.{get_or_past, get_or-replicate, get_or-set_same, get_or-set_other, get_or_read}
 use Rattle.std.proofs.lemmas.Bool.{cases_lt, cases_eq, eq-eqb, ne_eqb, lt-ltb, le-ltb, cond-true, cond-false, cond_both}
 use Rattle.std.proofs.lemmas.Bool.Decides.{nat_tests}
@@ -100,3 +102,7 @@ sent_more set f h after k v before new = one_more f (sent_to set f) h after k v 
 pub passed_more : (f h after : ℕ → Session) (k : ℕ) (v : Session) → Below f (sessions_later f) h k → v ≡ cond (is_silent (ticked (h k))) down (ticked (h k)) → ((i : ℕ) → after i ≡ cond (eqb i k) v (h i)) → Below f (sessions_later f) after (k + 1)
 unfolding sessions_later silent_in
 passed_more f h after k v before new = one_more f (sessions_later f) h after k v before (new ∙ ap (λ s. cond (is_silent (ticked s)) down (ticked s)) (untouched f (sessions_later f) h k before))
+
+-- a session that became what a call made of it, where all that the call can make of one is known
+pub changed : {F : Type 0} {post : F → Stored → Stored → Type 0} {step : F} {peer : ℕ} {s t : Sessions} (f : Session → Session) → ((before after : Stored) → post step before after → session_of after ≡ f (session_of before)) → Changes post step peer s t → (i : ℕ) → sessions_of t i ≡ at peer (f (sessions_of s peer)) (sessions_of s) i
+changed {F} {post} {step} {peer} {s} f makes c i = c.is i ∙ ap (λ v. at peer v (sessions_of s) i) (makes c.before c.after c.called ∙ ap f c.was)

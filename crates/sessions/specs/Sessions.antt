@@ -1,5 +1,6 @@
 -- The sessions of all peers. Assumes nothing.
-use Rattle.std.specs.Prelude.{ℕ, Bool, cond, List, slice_index_or}
+use Rattle.std.specs.Prelude.{◌≡◌, ℕ, Bool, cond, List, slice_index_or}
+use Rattle.model.specs.Model.{at}
 use Rattle.session.specs.Meant.{session_of}
 use Rattle.session.specs.Session.{Session, down, ticked, sent_now, is_silent}
 use Rattle.session.specs.declared.Phase.TheVariants.{Down}
@@ -13,6 +14,14 @@ session_at row i = session_of (slice_index_or row i (record { phase = Down; hear
 -- the session of each peer
 abbrev pub sessions_of : Sessions → ℕ → Session
 sessions_of s = session_at s.row
+
+-- the session of a peer became what a call made of it, and the others are as they were
+pub record Changes {F : Type 0} (post : F → Stored → Stored → Type 0) (step : F) (peer : ℕ) (s t : Sessions) : Type 0 where
+  pub before : Stored
+  pub after : Stored
+  pub was : session_of before ≡ sessions_of s peer
+  pub called : post step before after
+  pub is : (i : ℕ) → sessions_of t i ≡ at peer (session_of after) (sessions_of s) i
 
 -- whose time runs out when a second passes
 unfoldable pub silent_in : (ℕ → Session) → ℕ → Bool

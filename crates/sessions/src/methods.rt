@@ -4,7 +4,7 @@ ghost use Rattle.model.specs.Model.{at};
 ghost use Rattle.peers.specs.Members.{is_member};
 ghost use Rattle.session.specs.Meant.{session_of};
 ghost use Rattle.session.specs.Session.{down, is_silent, sent_now};
-ghost use Rattle.sessions.specs.Sessions.{sent_to, sessions_later, sessions_of, silent_in};
+ghost use Rattle.sessions.specs.Sessions.{Changes, sent_to, sessions_later, sessions_of, silent_in};
 
 use crate::{COUNT, Sessions};
 use peers::PeerSet;
@@ -34,12 +34,22 @@ impl Sessions {
         self.row[usize::from(peer)] = session;
     }
 
+    /// The session of a peer becomes what the step makes of it.
+    pub fn change<F: FnOnce(Session) -> Session>(&mut self, peer: u8, step: F)
+        requires { F.IsAlwaysCallable step }
+        ensures { Changes F.post step peer self.old self.new }
+    {
+        let session = self.get(peer);
+        self.set(peer, step(session));
+    }
+
     /// A second passes: the sessions whose time ran out go down. Which peers' these are is the answer.
     pub fn tick(&mut self) -> PeerSet
         ensures sessions { (i : ℕ) → sessions_of self.new i ≡ sessions_later (sessions_of self.old) i }
         ensures silent { (i : ℕ) → is_member result i ≡ (nat_lt i 64 && silent_in (sessions_of self.old) i) }
     {
         let mut silent = PeerSet::none();
+        // By number, as in `sent_to`: of what is written through `iter_mut` a proof knows nothing.
         for peer in 0..=u8::MAX {
             let session = self.get(peer).tick();
             silent.set(peer, session.is_silent());

@@ -1,9 +1,8 @@
 //! Sessions that go down.
 ghost use Rattle.std.specs.Prelude.{[], ◌∷◌};
 ghost use Rattle.fault.specs.Fault.{code};
-ghost use Rattle.model.specs.Chain.{Chain};
 ghost use Rattle.outbox.specs.Frames.{Closes};
-ghost use Rattle.outbox.specs.Outbox.{Puts, box_of};
+ghost use Rattle.outbox.specs.Outbox.{PutsAll};
 ghost use Rattle.speaker.specs.State.{Does, NotDown};
 ghost use Rattle.speaker_model.specs.Effects.{fault_frames, going_down, taken_down};
 
@@ -12,6 +11,7 @@ use fault::Fault;
 use outbox::{Outbox, Output};
 use peers::PeerSet;
 use rib::Rib;
+use session::Session;
 
 impl<R: Rib, O: Output> Speaker<R, O> {
     /// Takes the session of a peer down for a fault: the peer is told which, and all others what is new.
@@ -37,8 +37,7 @@ impl<R: Rib, O: Output> Speaker<R, O> {
         requires { NotDown self.old peer }
         ensures { Does R.Rib.received O.Output.writes peer (going_down peer []) self.old self.new }
     {
-        let session = self.sessions.get(peer);
-        self.sessions.set(peer, session.down());
+        self.sessions.change(peer, Session::down);
         self.server
             .take_down(&mut self.outbox, &PeerSet::only(peer));
     }
@@ -46,7 +45,7 @@ impl<R: Rib, O: Output> Speaker<R, O> {
 
 /// Tells a peer for which fault its session ends, and that it does.
 pub(crate) fn end_session<O: Output>(outbox: &mut Outbox<O>, peer: u8, fault: Fault)
-    ensures { Chain (Puts O.Output.writes) (box_of outbox.old) (fault_frames peer (code fault)) (box_of outbox.new) }
+    ensures { PutsAll O.Output.writes outbox.old (fault_frames peer (code fault)) outbox.new }
 {
     outbox.notify(peer, fault);
     outbox.close(peer);

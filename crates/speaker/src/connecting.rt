@@ -5,6 +5,7 @@ ghost use Rattle.speaker.specs.State.{Handles};
 use crate::Speaker;
 use outbox::Output;
 use rib::Rib;
+use session::Session;
 
 impl<R: Rib, O: Output> Speaker<R, O> {
     /// The connection to a peer is there: on a session that is down the server sends its OPEN.
@@ -14,11 +15,10 @@ impl<R: Rib, O: Output> Speaker<R, O> {
         if peer >= self.settings.peer_count() {
             return;
         }
-        let session = self.sessions.get(peer);
-        if !session.is_down() {
+        if !self.sessions.get(peer).is_down() {
             return;
         }
-        self.sessions.set(peer, session.opened());
+        self.sessions.change(peer, Session::opened);
         self.outbox.open(peer);
     }
 

@@ -14,7 +14,7 @@ use fault::Fault;
 use message::{Content, Message, Peer, State, read};
 use outbox::Output;
 use rib::Rib;
-use session::Phase;
+use session::{Phase, Session};
 use update_events::Saying;
 
 impl<R: Rib, O: Output> Speaker<R, O> {
@@ -88,8 +88,7 @@ impl<R: Rib, O: Output> Speaker<R, O> {
         requires { AwaitsOpen self.old peer }
         ensures { Does R.Rib.received O.Output.writes peer (coming_up peer (session_in self.old peer)) self.old self.new }
     {
-        let session = self.sessions.get(peer);
-        self.sessions.set(peer, session.established());
+        self.sessions.change(peer, Session::established);
         self.outbox.keepalive(peer);
         let _ = self.server.establish(&mut self.outbox, peer);
     }
@@ -98,8 +97,7 @@ impl<R: Rib, O: Output> Speaker<R, O> {
     fn hear(&mut self, peer: u8)
         ensures { Does R.Rib.received O.Output.writes peer (nothing (heard_now (session_in self.old peer))) self.old self.new }
     {
-        let session = self.sessions.get(peer);
-        self.sessions.set(peer, session.heard());
+        self.sessions.change(peer, Session::heard);
     }
 
     /// An UPDATE comes: refused whole where it needs more room than is left, else what it says of each prefix is taken.
@@ -116,8 +114,7 @@ impl<R: Rib, O: Output> Speaker<R, O> {
             self.fail(peer, Fault::Capacity);
             return;
         }
-        let session = self.sessions.get(peer);
-        self.sessions.set(peer, session.heard());
+        self.sessions.change(peer, Session::heard);
         saying.say(&mut self.server, &mut self.outbox);
     }
 }

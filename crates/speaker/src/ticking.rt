@@ -1,8 +1,7 @@
 //! A second passes.
 ghost use Rattle.std.specs.Prelude.{◌≡◌};
 ghost use Rattle.frame.specs.Frame.{tick};
-ghost use Rattle.model.specs.Chain.{Chain};
-ghost use Rattle.outbox.specs.Outbox.{Puts, box_of};
+ghost use Rattle.outbox.specs.Outbox.{PutsAll};
 ghost use Rattle.peers.specs.Members.{is_member};
 ghost use Rattle.sessions.specs.Sessions.{sessions_of};
 ghost use Rattle.speaker.specs.State.{Handles};
@@ -33,7 +32,7 @@ impl<R: Rib, O: Output> Speaker<R, O> {
 /// Tells each peer of a set, of those below `peers`, that its session ends, since nothing came on it.
 #[tactic(auto, using(crate::proofs::Ticks::downs))]
 fn end_sessions<O: Output>(outbox: &mut Outbox<O>, silent: &PeerSet, peers: u8)
-    ensures { Chain (Puts O.Output.writes) (box_of outbox.old) (down_frames 13 (is_member silent.now) peers) (box_of outbox.new) }
+    ensures { PutsAll O.Output.writes outbox.old (down_frames 13 (is_member silent.now) peers) outbox.new }
 {
     for peer in 0..peers {
         if silent.contains(peer) {
@@ -52,7 +51,7 @@ fn any_below(set: &PeerSet, peers: u8) -> bool
 /// A KEEPALIVE to each peer below `peers` to which one is due.
 #[tactic(auto, using(crate::proofs::Ticks::alives))]
 pub(crate) fn keep_alive<O: Output>(outbox: &mut Outbox<O>, sessions: &Sessions, peers: u8)
-    ensures { Chain (Puts O.Output.writes) (box_of outbox.old) (keepalives (sessions_of sessions.now) peers) (box_of outbox.new) }
+    ensures { PutsAll O.Output.writes outbox.old (keepalives (sessions_of sessions.now) peers) outbox.new }
 {
     for peer in 0..peers {
         if sessions.get(peer).is_keepalive_due() {
