@@ -1,10 +1,11 @@
 //! Lists of prefixes.
 ghost use Rattle.std.specs.Prelude.{◌≡◌, [], map, string_bytes};
 ghost use Rattle.policy.specs.Meant.{prefixes_of};
-ghost use Rattle.policy_print.specs.Printed.{list_text, lists_text, prefix_text, prefixes_text};
+ghost use Rattle.policy_print.specs.Printed.{list_text, lists_text, prefixes_text};
 ghost use Rattle.policy_print.specs.Puts.{Puts};
 ghost use Rattle.prefix.specs.Meant.{meant};
 
+use crate::shown::Shown;
 use policy::PrefixList;
 use prefix::Prefix;
 use std::alloc::AllocError;
@@ -36,22 +37,9 @@ fn put_prefixes(text: &mut String, prefixes: &[Prefix]) -> Result<(), AllocError
 {
     let mut before = "";
     for prefix in prefixes {
-        write!(text, "{before}")?;
-        put_prefix(text, prefix)?;
+        let prefix = Shown(*prefix);
+        write!(text, "{before}{prefix}")?;
         before = ", ";
     }
     Ok(())
-}
-
-/// Appends a prefix, as 10.0.0.0/8.
-fn put_prefix(text: &mut String, prefix: &Prefix) -> Result<(), AllocError>
-    ensures { Puts (string_bytes text.old) (prefix_text (meant prefix.now)) (string_bytes text.new) result }
-{
-    let address = prefix.address();
-    let a = address / 16777216;
-    let b = address / 65536 % 256;
-    let c = address / 256 % 256;
-    let d = address % 256;
-    let length = prefix.length();
-    write!(text, "{a}.{b}.{c}.{d}/{length}")
 }
