@@ -41,7 +41,7 @@ fn condition(reader: &mut Reader<'_>, names: &Names<'_>) -> Result<Condition, Re
 }
 
 /// The part that stands next.
-#[tactic(auto, using(crate::proofs::Recursions::part_more))]
+#[tactic(auto, using(crate::proofs::Recursions::part_more, crate::proofs::Recursions::fewer))]
 fn part(reader: &mut Reader<'_>, names: &Names<'_>) -> Result<Part, Refusal>
     ensures { Reads as_is (part (names_of names.now) false) (left reader.old) (left reader.new) result }
 {

@@ -15,6 +15,7 @@ use std::alloc::AllocError;
 pub(crate) fn put_lists(text: &mut String, lists: &[PrefixList]) -> Result<(), AllocError>
     ensures { Puts (string_bytes text.old) (lists_text 0 (map prefixes_of lists.now)) (string_bytes text.new) result }
 {
+    // the number is a part of the list's name
     for (number, list) in lists.iter().enumerate() {
         put_list(text, number, list)?;
     }
@@ -30,6 +31,7 @@ fn put_list(text: &mut String, number: usize, list: &PrefixList) -> Result<(), A
     write!(text, "\n")
 }
 
+// beside `put_parts`: one function for both would take what is shown as an iterator, which is no plainer
 /// Appends the prefixes, with commas between them.
 #[tactic(auto, using(crate::proofs::Recursions::read_at, crate::proofs::Recursions::prefixes_more, crate::proofs::Recursions::prefixes_none, std::proofs::lemmas::Grind::common_steps))]
 fn put_prefixes(text: &mut String, prefixes: &[Prefix]) -> Result<(), AllocError>
