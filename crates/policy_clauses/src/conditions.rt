@@ -22,7 +22,7 @@ pub fn clause(reader: &mut Reader<'_>, names: &Names<'_>) -> Result<Clause, Refu
 }
 
 /// The condition that stands next, with the `then` behind it.
-#[tactic(auto, using(crate::proofs::Recursions::parts_step, std::proofs::lemmas::List::length_push, std::proofs::lemmas::Grind::common_steps))]
+#[tactic(auto, using(crate::proofs::Recursions::parting))]
 fn condition(reader: &mut Reader<'_>, names: &Names<'_>) -> Result<Condition, Refusal>
     ensures { Reads parts_of (condition (names_of names.now)) (left reader.old) (left reader.new) result }
 {

@@ -9,7 +9,7 @@ use policy::{Clause, Part};
 use std::alloc::AllocError;
 
 /// Appends the clauses, one to a line.
-#[tactic(auto, using(crate::proofs::Recursions::read_at, std::proofs::lemmas::Grind::common_steps))]
+#[tactic(auto, using(crate::proofs::Recursions::putting))]
 pub(crate) fn put_clauses(text: &mut String, clauses: &[Clause]) -> Result<(), AllocError>
     ensures { Puts (string_bytes text.old) (clauses_text (map written_of clauses.now)) (string_bytes text.new) result }
 {
@@ -29,7 +29,7 @@ fn put_clause(text: &mut String, clause: &Clause) -> Result<(), AllocError>
 }
 
 /// Appends the parts of a condition, with `and` between them.
-#[tactic(auto, using(crate::proofs::Recursions::read_at, crate::proofs::Recursions::parts_more, crate::proofs::Recursions::parts_none, std::proofs::lemmas::Grind::common_steps))]
+#[tactic(auto, using(crate::proofs::Recursions::putting))]
 fn put_parts(text: &mut String, parts: &[Part]) -> Result<(), AllocError>
     ensures { Puts (string_bytes text.old) (parts_text [] parts.now) (string_bytes text.new) result }
 {

@@ -11,7 +11,7 @@ use prefix::Prefix;
 use std::alloc::AllocError;
 
 /// Appends the lists, one to a line.
-#[tactic(auto, using(crate::proofs::Recursions::read_at, crate::proofs::Recursions::lists_more, crate::proofs::Recursions::lists_none, std::proofs::lemmas::Grind::common_steps))]
+#[tactic(auto, using(crate::proofs::Recursions::putting))]
 pub(crate) fn put_lists(text: &mut String, lists: &[PrefixList]) -> Result<(), AllocError>
     ensures { Puts (string_bytes text.old) (lists_text 0 (map prefixes_of lists.now)) (string_bytes text.new) result }
 {
@@ -33,7 +33,7 @@ fn put_list(text: &mut String, number: usize, list: &PrefixList) -> Result<(), A
 
 // beside `put_parts`: one function for both would take what is shown as an iterator, which is no plainer
 /// Appends the prefixes, with commas between them.
-#[tactic(auto, using(crate::proofs::Recursions::read_at, crate::proofs::Recursions::prefixes_more, crate::proofs::Recursions::prefixes_none, std::proofs::lemmas::Grind::common_steps))]
+#[tactic(auto, using(crate::proofs::Recursions::putting))]
 fn put_prefixes(text: &mut String, prefixes: &[Prefix]) -> Result<(), AllocError>
     ensures { Puts (string_bytes text.old) (prefixes_text [] (map meant prefixes.now)) (string_bytes text.new) result }
 {

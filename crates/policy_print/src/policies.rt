@@ -22,7 +22,7 @@ pub fn print(heap: Global, policies: &Policies) -> Result<String, AllocError>
 }
 
 /// Appends the policies of one direction.
-#[tactic(auto, using(crate::proofs::Recursions::policies_more, crate::proofs::Recursions::policies_none, std::proofs::lemmas::Grind::common_steps))]
+#[tactic(auto, using(crate::proofs::Recursions::putting))]
 fn put_policies(
     text: &mut String,
     policies: &Policies,

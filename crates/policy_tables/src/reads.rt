@@ -13,7 +13,7 @@ use text_tokens::{Kind, Reader, Token};
 
 impl Policies {
     /// Reads a list, behind its `list` at the offset.
-    #[tactic(auto, using(crate::proofs::Filling::listed_more, crate::proofs::Filling::listed_count, std::proofs::lemmas::List::length_push, std::proofs::lemmas::Grind::common_steps))]
+    #[tactic(auto, using(crate::proofs::Filling::listing))]
     fn read_list<'a>(&mut self, unread: &mut Unread<'a>, at: usize) -> Result<(), Refusal>
         requires { IsLevel (draft_of self.old unread.old) }
         ensures read { Reads (λ _. draft_of self.new unread.new) (list_text at (draft_of self.old unread.old)) (left unread.old.reader) (left unread.new.reader) result }
@@ -31,7 +31,7 @@ impl Policies {
     }
 
     /// Reads a policy, behind its `from` or `to`.
-    #[tactic(auto, using(crate::proofs::Filling::grown, crate::proofs::Filling::filled, crate::proofs::Filling::named, crate::proofs::Filling::longer, crate::proofs::Filling::counts, crate::proofs::Filling::same_policies, std::proofs::lemmas::Grind::common_steps))]
+    #[tactic(auto, using(crate::proofs::Filling::growing))]
     fn read_policy(&mut self, unread: &mut Unread<'_>, direction: Direction) -> Result<(), Refusal>
         requires { IsLevel (draft_of self.old unread.old) }
         ensures read { Reads (λ _. draft_of self.new unread.new) (policy_text unread.old.peers direction (draft_of self.old unread.old)) (left unread.old.reader) (left unread.new.reader) result }
@@ -102,7 +102,7 @@ impl Policies {
     }
 
     /// Reads lists and policies up to the end of the text.
-    #[tactic(auto, using(crate::proofs::Filling::items_none, crate::proofs::Filling::items_step, crate::proofs::Filling::items_full, std::proofs::lemmas::Grind::common_steps))]
+    #[tactic(auto, using(crate::proofs::Filling::itemizing))]
     fn read_items(&mut self, unread: &mut Unread<'_>) -> Result<(), Refusal>
         requires { IsLevel (draft_of self.old unread.old) }
         ensures { ReadsAll (outcome (items 192 unread.old.peers (draft_of self.old unread.old) (left unread.old.reader))) (content_of self.new) result }
