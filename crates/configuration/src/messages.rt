@@ -39,7 +39,8 @@ impl TextRefusal {
         }
     }
 
-    /// What is awaited there, in words: a text that a line may keep.
+    // no `Display`: a line keeps this text
+    /// What is awaited there, in words.
     pub fn awaited_text(&self) -> &'static str
         ensures { result.now ≡ awaited_text self.now.awaited }
     {

@@ -1,5 +1,6 @@
 -- The steps of the recursions. Assumes nothing.
 use Rattle.std.proofs.Common.{◌≡◌, ℕ, zero, suc, ◌+◌, ◌-◌, ◌<◌, ◌≤◌, Bool, true, false, cond, not, eqb, ltb, List, [], ◌∷◌, ◌++◌, length, sym, refl, ap, ◌∙◌, ⊎_elim, arith}
+use Rattle.std.proofs.lemmas.Grind.{common_steps}
 use Rattle.std.proofs.lemmas.List.{length_push}
 use Rattle.std.proofs.lemmas.Bool.{cases_lt, cond-true, cond-false}
 use Rattle.std.proofs.lemmas.Bool.Decides.{nat_tests}
@@ -75,3 +76,5 @@ pub fewer : (a : Awaited) (s rest : Source) (w : ℕ × List ℕ) → word a s �
 unfolding size
 fewer a (Ended at) rest w e = let z : ◌≡◌ {A = ℕ} 0 1 = cc in absurd (omega arith)
 fewer a (More t s) rest w e = let same = ap size (of_token a t.at t.fresh t.kind s rest w e) in omega arith
+
+pub ruleset parting = (parts_step, length_push, common_steps)

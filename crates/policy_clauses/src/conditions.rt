@@ -22,7 +22,7 @@ pub fn clause(reader: &mut Reader<'_>, names: &Names<'_>) -> Result<Clause, Refu
 }
 
 /// The condition that stands next, with the `then` behind it.
-#[tactic(auto, using(crate::proofs::Recursions::parts_step, std::proofs::lemmas::List::length_push, std::proofs::lemmas::Grind::common_steps))]
+#[tactic(auto, using(crate::proofs::Recursions::parting))]
 fn condition(reader: &mut Reader<'_>, names: &Names<'_>) -> Result<Condition, Refusal>
     ensures { Reads parts_of (condition (names_of names.now)) (left reader.old) (left reader.new) result }
 {
@@ -41,7 +41,7 @@ fn condition(reader: &mut Reader<'_>, names: &Names<'_>) -> Result<Condition, Re
 }
 
 /// The part that stands next.
-#[tactic(auto, using(crate::proofs::Recursions::part_more))]
+#[tactic(auto, using(crate::proofs::Recursions::part_more, crate::proofs::Recursions::fewer))]
 fn part(reader: &mut Reader<'_>, names: &Names<'_>) -> Result<Part, Refusal>
     ensures { Reads as_is (part (names_of names.now) false) (left reader.old) (left reader.new) result }
 {

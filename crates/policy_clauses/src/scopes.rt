@@ -18,7 +18,7 @@ impl<'a> Names<'a> {
         }
     }
 
-    // the memory stays as it is until crate rows has a row of any type
+    // fixed memory, and an answer as that of the other rows with a count
     /// One name more; false, and all is left as it is, where there are 64.
     #[tactic(auto, using(crate::proofs::Naming::one_more, crate::proofs::Naming::so_many))]
     pub fn push(&mut self, name: &'a [u8]) -> bool
@@ -43,7 +43,6 @@ impl<'a> Names<'a> {
     }
 }
 
-#[tactic(auto, using(crate::proofs::Naming::meant_place))]
 fn index_of(name: &[u8], names: &[&[u8]]) -> Option<u8>
     requires { length names.now ≤ 64 }
     ensures { result ≡ index_of name.now (map (λ x. x.now) names.now) }

@@ -1,5 +1,6 @@
 -- The steps of the recursions. Assumes nothing.
 use Rattle.std.proofs.Common.{◌≡◌, ℕ, zero, suc, ◌+◌, ◌-◌, ◌<◌, ◌≤◌, Bool, true, false, cond, ◌||◌, eqb, ltb, List, [], ◌∷◌, ◌++◌, map, length, drop, sym, refl, ap, ◌∙◌, ⊎_elim, arith}
+use Rattle.std.proofs.lemmas.Grind.{common_steps}
 use Rattle.policy.specs.declared.Clause.{Clause}
 use Rattle.policy_clauses.proofs.Recursions.{limit}
 use Rattle.policy_clauses.specs.Meant.{written_of}
@@ -74,3 +75,7 @@ clauses_step most n names first before t rest =
 -- one clause more at the end of a pool
 pub behind : (n : ℕ) (cs : List Clause) (c : Clause) → n ≤ length cs → map written_of (drop n (cs ++ (c ∷ []))) ≡ map written_of (drop n cs) ++ (written_of c ∷ [])
 behind n cs c h = ap (map written_of) (drop-append-le n cs (c ∷ []) h) ∙ map_push written_of (drop n cs) c
+
+pub ruleset listing = (prefixes_step, listed_more, length_push, common_steps)
+
+pub ruleset pooling = (clauses_step, no_more, behind, common_steps)

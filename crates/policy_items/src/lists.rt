@@ -27,7 +27,7 @@ pub fn list_head<'a>(reader: &mut Reader<'a>, names: &Names<'_>) -> Result<&'a [
 }
 
 /// The prefixes of a list.
-#[tactic(auto, using(crate::proofs::Recursions::prefixes_step, crate::proofs::Recursions::listed_more, std::proofs::lemmas::List::length_push, std::proofs::lemmas::Grind::common_steps))]
+#[tactic(auto, using(crate::proofs::Recursions::listing))]
 pub fn prefix_list(reader: &mut Reader<'_>) -> Result<PrefixList, Refusal>
     ensures { Reads prefixes_of prefix_list (left reader.old) (left reader.new) result }
 {

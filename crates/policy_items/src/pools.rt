@@ -42,7 +42,7 @@ impl Pool {
     }
 
     /// Reads the clauses of a policy, up to its `}`, and puts them behind those of the pool.
-    #[tactic(auto, using(crate::proofs::Recursions::clauses_step, crate::proofs::Recursions::no_more, crate::proofs::Recursions::behind, std::proofs::lemmas::Grind::common_steps))]
+    #[tactic(auto, using(crate::proofs::Recursions::pooling))]
     pub fn read(&mut self, reader: &mut Reader<'_>, names: &Names<'_>) -> Result<(), Refusal>
         ensures new { Reads (λ _. map written_of (drop (length (stored self.old)) (stored self.new))) (clauses (min 256 (4096 - length (stored self.old))) (names_of names.now) true []) (left reader.old) (left reader.new) result }
         ensures old { take (length (stored self.old)) (stored self.new) ≡ stored self.old }

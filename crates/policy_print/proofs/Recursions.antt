@@ -1,5 +1,6 @@
 -- The steps of the recursions. Assumes nothing.
 use Rattle.std.proofs.Common.{◌≡◌, ℕ, ◌+◌, ◌<◌, List, [], ◌∷◌, ◌++◌, length, get_or, drop, codes, None, refl, ap, add-one}
+use Rattle.std.proofs.lemmas.Grind.{common_steps}
 use Rattle.std.proofs.lemmas.List.{drop_more}
 use Rattle.policy.specs.declared.Part.{Part}
 use Rattle.policy_tables.specs.Texts.{Content, place_of}
@@ -42,3 +43,5 @@ policies_more direction n c = ap (λ k. policies_text direction k c) (add-one n)
 -- what is left of a row, one step on
 pub read_at : {X : Type 0} (xs : List X) (i : ℕ) (d : X) → i < length xs → (get_or xs i d ≡ get_or xs i d) × (drop i xs ≡ get_or xs i d ∷ drop (i + 1) xs)
 read_at xs i d h = (refl, drop_more xs i d h)
+
+pub ruleset putting = (read_at, prefixes_more, prefixes_none, parts_more, parts_none, lists_more, lists_none, policies_more, policies_none, common_steps)

@@ -7,7 +7,7 @@ use Rattle.policy.specs.declared.Part.{Part}
 use Rattle.policy.specs.declared.Test.{Test}
 use Rattle.policy.specs.declared.Test.TheVariants as a_test
 use Rattle.policy_clauses.specs.Reading.{Written}
-use Rattle.policy_tables.specs.Texts.{Content, place_of}
+use Rattle.policy_tables.specs.Texts.{Content, direction_word, place_of}
 use Rattle.policy_tables.specs.declared.Direction.{Direction}
 use Rattle.policy_tables.specs.declared.Direction.TheVariants.{Import, Export}
 use Rattle.prefix.specs.Prefix.{Prefix}
@@ -76,8 +76,7 @@ abbrev pub clauses_text : List Written → List ℕ
 clauses_text cs = flat_map clause_text cs
 
 abbrev pub direction_text : Direction → List ℕ
-direction_text Import = codes "from "
-direction_text Export = codes "to "
+direction_text d = direction_word d ++ codes " "
 
 -- the policy of a peer; nothing, if the peer has none of that direction
 abbrev pub policy_text : Direction → ℕ → Option (List Written) → List ℕ

@@ -4,5 +4,6 @@
 mod clauses;
 mod lists;
 mod policies;
+mod shown;
 
 pub use policies::print;

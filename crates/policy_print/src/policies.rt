@@ -1,6 +1,6 @@
 //! Whole texts.
 ghost use Rattle.std.specs.Prelude.{◌≡◌, ◌<◌, IfOk, string_bytes};
-ghost use Rattle.policy_print.specs.Printed.{direction_text, policies_text, policy_text, printed};
+ghost use Rattle.policy_print.specs.Printed.{policies_text, policy_text, printed};
 ghost use Rattle.policy_print.specs.Puts.{Puts};
 ghost use Rattle.policy_tables.specs.Meant.{content_of, named_of};
 
@@ -22,7 +22,7 @@ pub fn print(heap: Global, policies: &Policies) -> Result<String, AllocError>
 }
 
 /// Appends the policies of one direction.
-#[tactic(auto, using(crate::proofs::Recursions::policies_more, crate::proofs::Recursions::policies_none, std::proofs::lemmas::Grind::common_steps))]
+#[tactic(auto, using(crate::proofs::Recursions::putting))]
 fn put_policies(
     text: &mut String,
     policies: &Policies,
@@ -48,17 +48,7 @@ fn put_policy(
     let Some(clauses) = clauses else {
         return Ok(());
     };
-    put_direction(text, direction)?;
-    write!(text, "{peer} {{\n")?;
+    write!(text, "{direction} {peer} {{\n")?;
     put_clauses(text, clauses)?;
     write!(text, "}}\n")
-}
-
-fn put_direction(text: &mut String, direction: Direction) -> Result<(), AllocError>
-    ensures { Puts (string_bytes text.old) (direction_text direction) (string_bytes text.new) result }
-{
-    match direction {
-        Direction::Import => write!(text, "from "),
-        Direction::Export => write!(text, "to "),
-    }
 }

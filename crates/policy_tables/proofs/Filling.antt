@@ -1,5 +1,6 @@
 -- Spans in a pool that grows, lists, and the items of a text. Assumes nothing.
 use Rattle.std.proofs.Common.{◌≡◌, ℕ, zero, suc, ◌+◌, ◌-◌, ◌<◌, ◌≤◌, Bool, true, false, ◌&&◌, leb, List, [], ◌∷◌, ◌++◌, map, length, get_or, take, drop, set, is_some, Some, None, Option, sym, refl, ap, ◌∙◌, arith, length-drop, length-take}
+use Rattle.std.proofs.lemmas.Grind.{common_steps}
 use Rattle.policy.specs.declared.Clause.{Clause}
 use Rattle.policy.specs.declared.PrefixList.{PrefixList}
 use Rattle.policy.specs.Meant.{prefixes_of}
@@ -11,7 +12,7 @@ use Rattle.text_tokens.specs.Tokens.{Source, Ended, More, Token}
 use Rattle.text_tokens.specs.declared.Kind.{Kind}
 use Rattle.text_tokens.specs.declared.Kind.TheVariants.{Word, Sign, End}
 use Rattle.policy_tables.specs.Texts.{Draft, item, items}
-use Rattle.std.proofs.lemmas.List.{drop-append-le, length-map, map_push, take-append-drop, take-append-le, take_rest, map-set}
+use Rattle.std.proofs.lemmas.List.{drop-append-le, length-map, length_push, map_push, take-append-drop, take-append-le, take_rest, map-set}
 use Rattle.std.proofs.lemmas.Bool.{le-leb}
 use Rattle.std.proofs.lemmas.Bool.Decides.{nat_tests}
 use Rattle.policy_tables.specs.declared.Span.{Span}
@@ -139,3 +140,9 @@ items_full n peers d at fresh k rest h more = let zero_left : 192 - n ≡ 0 = om
     all (Word w) g = none_more peers d _ rest
     all (Sign s) g = none_more peers d _ rest
     all End g = absurd (g refl)
+
+pub ruleset listing = (listed_more, listed_count, length_push, common_steps)
+
+pub ruleset growing = (grown, filled, named, longer, counts, same_policies, common_steps)
+
+pub ruleset itemizing = (items_none, items_step, items_full, common_steps)

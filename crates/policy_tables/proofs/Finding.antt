@@ -1,5 +1,6 @@
 -- Finding a policy, and its clauses with their lists. Assumes nothing.
 use Rattle.std.proofs.Common.{◌≡◌, ℕ, zero, suc, ◌+◌, ◌≤◌, true, List, [], ◌∷◌, map, get_or, Some, None, Option, unwrap_or, sym, refl, ap, ◌∙◌, arith}
+use Rattle.std.proofs.lemmas.Grind.{common_steps}
 use Rattle.policy.specs.Meant.{action_of, clause_of, list_at, part_of, parts_of, prefixes_of, test_of}
 use Rattle.policy.specs.Policy.{Part as MeantPart}
 use Rattle.policy.specs.declared.Clause.{Clause}
@@ -11,7 +12,7 @@ use Rattle.policy.specs.Policy as meant
 use Rattle.policy_clauses.specs.Meant.{written_of}
 use Rattle.policy_clauses.specs.Reading.{Written}
 use Rattle.prefix.specs.Prefix.{Prefix}
-use Rattle.policy_tables.proofs.Filling.{both, leb_is}
+use Rattle.policy_tables.proofs.Filling.{at_place, both, leb_is}
 use Rattle.policy_tables.specs.declared.Span.{Span}
 use Rattle.policy_tables.specs.Slots.{all_fit, fits}
 use Rattle.policy_tables.specs.Texts.{clause_meant, clauses_meant, part_meant, test_meant}
@@ -53,3 +54,7 @@ clauses ls (c ∷ cs) = λ i. clause ls c i ∷ clauses ls cs i
 pub meant_clauses : (ls : List (List Prefix)) (o : Option (List Written)) → clauses_meant ls o ≡ map (clause_meant ls) (unwrap_or o [])
 meant_clauses ls None = refl
 meant_clauses ls (Some cs) = refl
+
+pub ruleset placing = (within, at_place, common_steps)
+
+pub ruleset meaning_of = (clauses, meant_clauses, common_steps)

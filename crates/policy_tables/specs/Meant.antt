@@ -3,7 +3,7 @@ use Rattle.std.specs.Prelude.{◌≡◌, ℕ, Bool, List, map, length, Some, Non
 use Rattle.std.specs.Borrow.{Bor}
 use Rattle.policy.specs.Meant.{prefixes_of}
 use Rattle.policy.specs.declared.Clause.{Clause}
-use Rattle.policy_clauses.specs.Meant.{written_of}
+use Rattle.policy_clauses.specs.Meant.{names_of, written_of}
 use Rattle.policy_items.specs.Meant.{stored}
 use Rattle.policy_clauses.specs.Reading.{Reading, Stop, Written}
 use Rattle.policy_clauses.specs.declared.Awaited.TheVariants as awaited
@@ -13,6 +13,7 @@ use Rattle.text_tokens.specs.declared.Kind as stored_kind
 use Rattle.text_tokens.specs.declared.Kind.TheVariants as a_kind
 use Rattle.text_tokens.specs.declared.Token.{Token as StoredToken}
 use Rattle.policy_tables.specs.declared.Policies.{Policies}
+use Rattle.policy_tables.specs.declared.Unread.{Unread}
 use Rattle.policy_tables.specs.Slots.{slot_policy}
 use Rattle.policy_tables.specs.Texts.{Content, Draft, Outcome, Read, Refused, item}
 
@@ -25,8 +26,8 @@ named_of None = None
 named_of (Some cs) = Some (map written_of cs.now)
 
 -- what was read so far, with the names of the lists
-abbrev pub draft_of : Policies → List (List ℕ) → Draft
-draft_of p names = record { names = names; lists = (content_of p).lists; policies = (content_of p).policies; count = length (stored p.pool) }
+abbrev pub draft_of : Policies → Unread → Draft
+draft_of p u = record { names = names_of u.names; lists = (content_of p).lists; policies = (content_of p).policies; count = length (stored p.pool) }
 
 -- each list has its name
 abbrev pub IsLevel : Draft → Type 0

@@ -1,5 +1,5 @@
 -- What a policy text means. Assumes nothing.
-use Rattle.std.specs.Prelude.{ℕ, zero, suc, ◌+◌, ◌-◌, min, true, cond, not, ◌&&◌, List, [], ◌∷◌, ◌++◌, map, length, replicate, is_some, Some, None, Option, nat_le, nat_lt, slice_index_or, slice_set}
+use Rattle.std.specs.Prelude.{ℕ, zero, suc, ◌+◌, ◌-◌, min, true, cond, not, ◌&&◌, List, [], ◌∷◌, ◌++◌, map, length, replicate, is_some, Some, None, codes, Option, nat_le, nat_lt, slice_index_or, slice_set}
 use Rattle.policy.specs.Meant.{action_of}
 use Rattle.policy.specs.Policy.{Clause, Part, Policy, Test, Any, PrefixIn, PrefixWithin, Passes, HasCommunity, LongerThan}
 use Rattle.policy.specs.declared.Part as stored_part
@@ -40,6 +40,11 @@ empty = record { names = []; lists = nothing.lists; policies = nothing.policies;
 abbrev pub place_of : Direction → ℕ → ℕ
 place_of Import peer = peer
 place_of Export peer = 64 + peer
+
+-- the word that begins a policy
+abbrev pub direction_word : Direction → List ℕ
+direction_word Import = codes "from"
+direction_word Export = codes "to"
 
 abbrev pub with_list : List ℕ → List Prefix → Draft → Draft
 with_list name list d = record { names = d.names ++ (name ∷ []); lists = d.lists ++ (list ∷ []); policies = d.policies; count = d.count }

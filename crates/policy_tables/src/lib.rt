@@ -6,7 +6,9 @@ ghost use Rattle.policy_tables.specs.Slots.{all_fit};
 ghost use Rattle.policy_items.specs.Meant.{stored};
 
 use policy::PrefixList;
+use policy_clauses::Names;
 use policy_items::Pool;
+use text_tokens::Reader;
 
 mod laws;
 mod lookups;
@@ -28,6 +30,14 @@ pub enum Direction {
 struct Span {
     start: usize,
     count: usize,
+}
+
+/// What is left of a text, the names of its lists so far, and how many peers there are.
+#[derive(Clone, Copy)]
+struct Unread<'a> {
+    reader: Reader<'a>,
+    names: Names<'a>,
+    peers: u8,
 }
 
 /// The policies of one text: for each of 64 peers those for import, and then those for export; a policy that the text does not name has no span.

@@ -16,7 +16,7 @@ impl Policies {
     }
 
     /// The peer's policy of that direction; one that the text does not name has no clauses.
-    #[tactic(auto, using(crate::proofs::Finding::clauses, crate::proofs::Finding::meant_clauses, std::proofs::lemmas::Grind::common_steps))]
+    #[tactic(auto, using(crate::proofs::Finding::meaning_of))]
     pub fn policy(&self, direction: Direction, peer: u8) -> Policy<'_>
         ensures { policy_of result ≡ policy_for (content_of self.now) direction peer }
     {
@@ -37,7 +37,7 @@ impl Policies {
     }
 
     /// The clauses of the policy at the place, if the text names it.
-    #[tactic(auto, using(crate::proofs::Finding::within, crate::proofs::Filling::at_place, std::proofs::lemmas::Grind::common_steps))]
+    #[tactic(auto, using(crate::proofs::Finding::placing))]
     fn clauses_at(&self, place: usize) -> Option<&[Clause]>
         requires { place < 128 }
         ensures { named_of result ≡ slice_index_or (content_of self.now).policies place None }

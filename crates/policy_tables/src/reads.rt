@@ -2,10 +2,10 @@
 ghost use Rattle.std.specs.Prelude.{◌≡◌, ◌<◌, length, is_some, IfOk, None, OnErr, OnOk, slice_index_or};
 ghost use Rattle.policy_tables.specs.Meant.{IsLevel, content_of, draft_of, item_from, ReadsAll};
 ghost use Rattle.policy_tables.specs.Texts.{items, list_text, meaning, nothing, outcome, peer, policy_text};
-ghost use Rattle.policy_clauses.specs.Meant.{Reads, as_is, names_of};
+ghost use Rattle.policy_clauses.specs.Meant.{Reads, as_is};
 ghost use Rattle.text_tokens.specs.Meant.{left};
 
-use crate::{Direction, Policies, Span};
+use crate::{Direction, Policies, Span, Unread};
 use policy_clauses::{Awaited, Names, Refusal, word};
 use policy_items::{list_head, open, prefix_list};
 use policy_words::{ItemWord, item_word, number_of, text_of};
@@ -13,43 +13,35 @@ use text_tokens::{Kind, Reader, Token};
 
 impl Policies {
     /// Reads a list, behind its `list` at the offset.
-    #[tactic(auto, using(crate::proofs::Filling::listed_more, crate::proofs::Filling::listed_count, std::proofs::lemmas::List::length_push, std::proofs::lemmas::Grind::common_steps))]
-    fn read_list<'a>(
-        &mut self,
-        reader: &mut Reader<'a>,
-        names: &mut Names<'a>,
-        at: usize,
-    ) -> Result<(), Refusal>
-        requires { IsLevel (draft_of self.old (names_of names.old)) }
-        ensures read { Reads (λ _. draft_of self.new (names_of names.new)) (list_text at (draft_of self.old (names_of names.old))) (left reader.old) (left reader.new) result }
-        ensures level { OnOk result (IsLevel (draft_of self.new (names_of names.new))) }
+    #[tactic(auto, using(crate::proofs::Filling::listing))]
+    fn read_list<'a>(&mut self, unread: &mut Unread<'a>, at: usize) -> Result<(), Refusal>
+        requires { IsLevel (draft_of self.old unread.old) }
+        ensures read { Reads (λ _. draft_of self.new unread.new) (list_text at (draft_of self.old unread.old)) (left unread.old.reader) (left unread.new.reader) result }
+        ensures level { OnOk result (IsLevel (draft_of self.new unread.new)) }
+        ensures peers { unread.new.peers ≡ unread.old.peers }
     {
         if self.lists.len() >= 64 {
             return Err(Refusal::new(at, Awaited::Policy));
         }
-        let name = list_head(reader, names)?;
-        let list = prefix_list(reader)?;
+        let name = list_head(&mut unread.reader, &unread.names)?;
+        let list = prefix_list(&mut unread.reader)?;
         self.lists.push_reserved(list);
-        let _ = names.push(name);
+        let _ = unread.names.push(name);
         Ok(())
     }
 
     /// Reads a policy, behind its `from` or `to`.
-    #[tactic(auto, using(crate::proofs::Filling::grown, crate::proofs::Filling::filled, crate::proofs::Filling::named, crate::proofs::Filling::longer, crate::proofs::Filling::counts, crate::proofs::Filling::same_policies, std::proofs::lemmas::Grind::common_steps))]
-    fn read_policy(
-        &mut self,
-        reader: &mut Reader<'_>,
-        names: &Names<'_>,
-        peers: u8,
-        direction: Direction,
-    ) -> Result<(), Refusal>
-        ensures read { Reads (λ _. draft_of self.new (names_of names.now)) (policy_text peers direction (draft_of self.old (names_of names.now))) (left reader.old) (left reader.new) result }
-        ensures lists { (content_of self.new).lists ≡ (content_of self.old).lists }
+    #[tactic(auto, using(crate::proofs::Filling::growing))]
+    fn read_policy(&mut self, unread: &mut Unread<'_>, direction: Direction) -> Result<(), Refusal>
+        requires { IsLevel (draft_of self.old unread.old) }
+        ensures read { Reads (λ _. draft_of self.new unread.new) (policy_text unread.old.peers direction (draft_of self.old unread.old)) (left unread.old.reader) (left unread.new.reader) result }
+        ensures level { OnOk result (IsLevel (draft_of self.new unread.new)) }
+        ensures peers { unread.new.peers ≡ unread.old.peers }
     {
-        let place = self.free_place(reader, peers, direction)?;
-        open(reader)?;
+        let place = self.free_place(&mut unread.reader, unread.peers, direction)?;
+        open(&mut unread.reader)?;
         let start = self.pool.len();
-        self.pool.read(reader, names)?;
+        self.pool.read(&mut unread.reader, &unread.names)?;
         let count = self.pool.len() - start;
         self.spans[place] = Some(Span { start, count });
         Ok(())
@@ -90,16 +82,11 @@ impl Policies {
 
 impl Policies {
     /// Reads a list or a policy, from its first token on.
-    fn read_item<'a>(
-        &mut self,
-        reader: &mut Reader<'a>,
-        names: &mut Names<'a>,
-        peers: u8,
-        token: Token<'a>,
-    ) -> Result<(), Refusal>
-        requires { IsLevel (draft_of self.old (names_of names.old)) }
-        ensures read { Reads (λ _. draft_of self.new (names_of names.new)) (item_from peers (draft_of self.old (names_of names.old)) token.entry) (left reader.old) (left reader.new) result }
-        ensures level { OnOk result (IsLevel (draft_of self.new (names_of names.new))) }
+    fn read_item<'a>(&mut self, unread: &mut Unread<'a>, token: Token<'a>) -> Result<(), Refusal>
+        requires { IsLevel (draft_of self.old unread.old) }
+        ensures read { Reads (λ _. draft_of self.new unread.new) (item_from unread.old.peers (draft_of self.old unread.old) token.entry) (left unread.old.reader) (left unread.new.reader) result }
+        ensures level { OnOk result (IsLevel (draft_of self.new unread.new)) }
+        ensures peers { unread.new.peers ≡ unread.old.peers }
     {
         let refusal = Refusal::new(token.at, Awaited::Item);
         let Kind::Word(bytes) = token.kind else {
@@ -107,32 +94,27 @@ impl Policies {
         };
         let text = text_of(bytes).ok_or(refusal)?;
         match item_word(text) {
-            Some(ItemWord::List) => self.read_list(reader, names, token.at),
-            Some(ItemWord::From) => self.read_policy(reader, names, peers, Direction::Import),
-            Some(ItemWord::To) => self.read_policy(reader, names, peers, Direction::Export),
+            Some(ItemWord::List) => self.read_list(unread, token.at),
+            Some(ItemWord::From) => self.read_policy(unread, Direction::Import),
+            Some(ItemWord::To) => self.read_policy(unread, Direction::Export),
             None => Err(refusal),
         }
     }
 
     /// Reads lists and policies up to the end of the text.
-    #[tactic(auto, using(crate::proofs::Filling::items_none, crate::proofs::Filling::items_step, crate::proofs::Filling::items_full, std::proofs::lemmas::Grind::common_steps))]
-    fn read_items<'a>(
-        &mut self,
-        reader: &mut Reader<'a>,
-        names: &mut Names<'a>,
-        peers: u8,
-    ) -> Result<(), Refusal>
-        requires { IsLevel (draft_of self.old (names_of names.old)) }
-        ensures { ReadsAll (outcome (items 192 peers (draft_of self.old (names_of names.old)) (left reader.old))) (content_of self.new) result }
+    #[tactic(auto, using(crate::proofs::Filling::itemizing))]
+    fn read_items(&mut self, unread: &mut Unread<'_>) -> Result<(), Refusal>
+        requires { IsLevel (draft_of self.old unread.old) }
+        ensures { ReadsAll (outcome (items 192 unread.old.peers (draft_of self.old unread.old) (left unread.old.reader))) (content_of self.new) result }
     {
         for _item in 0..192u8 {
-            let token = reader.next();
+            let token = unread.reader.next();
             if let Kind::End = token.kind {
                 return Ok(());
             }
-            self.read_item(reader, names, peers, token)?;
+            self.read_item(unread, token)?;
         }
-        let token = reader.next();
+        let token = unread.reader.next();
         match token.kind {
             Kind::End => Ok(()),
             _ => Err(Refusal::new(token.at, Awaited::End)),
@@ -158,8 +140,11 @@ impl Policies {
             return Err(Refusal::new(65536, Awaited::End));
         }
         self.clear();
-        let mut reader = Reader::new(text);
-        let mut names = Names::new();
-        self.read_items(&mut reader, &mut names, peers)
+        let mut unread = Unread {
+            reader: Reader::new(text),
+            names: Names::new(),
+            peers,
+        };
+        self.read_items(&mut unread)
     }
 }

@@ -19,3 +19,5 @@ not_ascii bs h = high bs h.0 h.1
 
 pub ascii_text : (bs : List ℕ) → IsAscii bs → IsUtf8 bs
 ascii_text bs h = IsUtf8-from_ascii bs h
+
+pub ruleset spelling = (ascii, not_ascii, ascii_text)

@@ -6,7 +6,7 @@ ghost use Rattle.std.specs.Option.{option_map};
 use std::str::from_utf8;
 
 /// The word as a text, if all its bytes are below 128.
-#[tactic(auto, using(crate::proofs::Ascii::ascii, crate::proofs::Ascii::not_ascii, crate::proofs::Ascii::ascii_text))]
+#[tactic(auto, using(crate::proofs::Ascii::spelling))]
 pub fn text_of(word: &[u8]) -> Option<&str>
     ensures { option_map (λ x. x.now) result ≡ (if is_ascii word.now then Some word.now else None) }
 {

@@ -92,3 +92,5 @@ run_of text start n within first e =
 -- a word is one token
 pub scan_word : (text : List ℕ) (start end : ℕ) (fresh : Bool) → Run text start end → scan (Between fresh) start (drop start text) ≡ worded start fresh (take (end - start) (drop start text)) (scan (Between false) end (drop end text))
 scan_word text start end fresh run = word text start end fresh run
+
+pub ruleset scanning = (scan_more, scan_none, scan_word)

@@ -48,6 +48,7 @@ pub(crate) fn skip(text: &[u8], start: usize, fresh: bool) -> (usize, bool)
     ensures begins { result.0 < length text.now → Begins (class_of (slice_index text.now result.0)) }
 {
     let mut gap = Gap::Blank { fresh };
+    // by places, since the place is the answer
     for at in start..text.len() {
         let Some(longer) = gap.with(text[at]) else {
             return (at, gap.fresh());

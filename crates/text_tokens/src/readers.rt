@@ -33,7 +33,7 @@ impl<'a> Reader<'a> {
 }
 
 /// The token that begins at the offset, and the offset behind it.
-#[tactic(auto, using(crate::proofs::Scanning::scan_more, crate::proofs::Scanning::scan_none, crate::proofs::Scanning::scan_word))]
+#[tactic(auto, using(crate::proofs::Scanning::scanning))]
 fn kind_at<'a>(text: &'a [u8], at: usize, fresh: bool) -> (Kind<'a>, usize)
     requires { at < length text.now → Begins (class_of (slice_index text.now at)) }
     ensures { scan (Between fresh) at (drop at text.now) ≡ pulled_as at fresh result.0 (scan (Between false) result.1 (drop result.1 text.now)) }

@@ -1,0 +1,71 @@
+//! Values of other crates as they stand in a text.
+ghost use Rattle.std.specs.Prelude.{Some};
+ghost use Rattle.policy_print.specs.Printed.{action_text, part_text, prefix_text, test_text};
+ghost use Rattle.prefix.specs.Meant.{meant};
+
+use policy::{Action, Part, Test};
+use prefix::Prefix;
+use std::fmt;
+
+/// A value of another crate, to be printed.
+#[derive(Clone, Copy)]
+pub(crate) struct Shown<T>(pub T);
+
+/// A prefix, as 10.0.0.0/8.
+impl fmt::Display for Shown<Prefix> {
+    ghost output = { λ x. Some (prefix_text (meant x.0)) };
+
+    fn fmt<W: fmt::Write>(&self, f: &mut fmt::Formatter<W>) -> fmt::Result {
+        let address = self.0.address();
+        let a = address / 16777216;
+        let b = address / 65536 % 256;
+        let c = address / 256 % 256;
+        let d = address % 256;
+        let length = self.0.length();
+        write!(f, "{a}.{b}.{c}.{d}/{length}")
+    }
+}
+
+impl fmt::Display for Shown<Part> {
+    ghost output = { λ x. Some (part_text x.0) };
+
+    fn fmt<W: fmt::Write>(&self, f: &mut fmt::Formatter<W>) -> fmt::Result {
+        let test = Shown(self.0.test);
+        if self.0.negated {
+            write!(f, "not {test}")
+        } else {
+            write!(f, "{test}")
+        }
+    }
+}
+
+impl fmt::Display for Shown<Test> {
+    ghost output = { λ x. Some (test_text x.0) };
+
+    fn fmt<W: fmt::Write>(&self, f: &mut fmt::Formatter<W>) -> fmt::Result {
+        match self.0 {
+            Test::Any => write!(f, "any"),
+            Test::PrefixIn { list } => write!(f, "range in l{list}"),
+            Test::PrefixWithin { list } => write!(f, "range within l{list}"),
+            Test::Passes { asn } => write!(f, "passes {asn}"),
+            Test::HasCommunity { community } => write!(f, "marked {community}"),
+            Test::LongerThan { asns } => write!(f, "longer {asns}"),
+        }
+    }
+}
+
+impl fmt::Display for Shown<Action> {
+    ghost output = { λ x. Some (action_text x.0) };
+
+    fn fmt<W: fmt::Write>(&self, f: &mut fmt::Formatter<W>) -> fmt::Result {
+        match self.0 {
+            Action::Accept => write!(f, "take"),
+            Action::Reject => write!(f, "leave"),
+            Action::SetLocalPref(local_pref) => write!(f, "like {local_pref}"),
+            Action::SetMed(med) => write!(f, "far {med}"),
+            Action::AddCommunity(community) => write!(f, "mark {community}"),
+            Action::RemoveCommunity(community) => write!(f, "unmark {community}"),
+            Action::Prepend { asn, times } => write!(f, "front {asn} times {times}"),
+        }
+    }
+}
