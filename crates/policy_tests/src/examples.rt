@@ -1,17 +1,10 @@
 //! Values that the tests are made of.
+use example_words::there;
 use policy::{Condition, Part, PrefixList, Test};
 use prefix::Prefix;
 use route::{Communities, Metrics, Path, Route};
 use std::process::Abort;
 use std::test::*;
-
-/// What must be there for the test to go on.
-pub fn there<T>(value: Option<T>) -> Result<T, Fail> {
-    match value {
-        Some(value) => Ok(value),
-        None => Err(Fail::new("nothing is there")),
-    }
-}
 
 /// The prefix a.b.c.d/length.
 pub fn prefix(address: [u8; 4], length: u8) -> Result<Prefix, Fail> {

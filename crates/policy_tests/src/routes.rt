@@ -1,5 +1,5 @@
 //! Paths and communities at their limits.
-use crate::examples::there;
+use example_words::there;
 use route::{Communities, Path, is_among};
 use std::test::*;
 
