@@ -50,14 +50,13 @@ impl<'a, R: Read + Drop> Inlet<'a, R> {
         ensures { (i : Intake) × (n : ℕ) × (turn_of i (record { step = result; taken = n }) ≡ turn (state_of self.old.intake) (drop self.old.taken (at_hand self.old.buffer))) }
     {
         self.buffer.take(self.taken);
-        let turn = self.intake.next(self.buffer.at_hand());
-        self.taken = turn.taken;
-        match turn.step {
+        let step = advance(&mut self.intake, self.buffer.at_hand(), &mut self.taken);
+        match step {
             Step::Refused { refusal } => tell(self.rt, FaultLine::from(refusal)),
             Step::Unreadable { defect } => tell(self.rt, FaultLine::from(defect)),
             Step::Settings | Step::Event { .. } | Step::More => {}
         }
-        turn.step
+        step
     }
 
     /// Waits for more bytes. False where the input has ended: there is no more to do then, and it is told if that is
@@ -75,6 +74,15 @@ impl<'a, R: Read + Drop> Inlet<'a, R> {
         }
         Ok(false)
     }
+}
+
+/// What is next of these bytes, and how many of them are done with then.
+fn advance<'a>(intake: &mut Intake, bytes: &'a [u8], taken: &mut usize) -> Step<'a>
+    ensures { turn_of intake.new (record { step = result; taken = taken.new }) ≡ turn (state_of intake.old) bytes.now }
+{
+    let turn = intake.next(bytes);
+    *taken = turn.taken;
+    turn.step
 }
 
 /// Tells of a fault.
