@@ -1,9 +1,9 @@
 //! The policies of the cases.
-ghost use Rattle.std.specs.Prelude.{◌≡◌, false, [], ◌∷◌, if◌then◌else◌, nat_eq};
-ghost use Rattle.policy.specs.Meant.{parts_of, policy_of};
+ghost use Rattle.std.specs.Prelude.{◌≡◌, if◌then◌else◌, nat_eq};
+ghost use Rattle.policy.specs.Meant.{policy_of};
 
-use crate::plays::nine;
-use policy::{Action, Clause, Condition, Part, Policy, PrefixList, Test};
+use example_words::{prefix_or_whole, when};
+use policy::{Action, Clause, Policy, PrefixList, Test};
 use selection::PolicySource;
 
 /// The policies of one peer, and those that all others have.
@@ -37,6 +37,33 @@ impl PolicySource for Policies<'_> {
     }
 }
 
+impl<'a> Policies<'a> {
+    /// All have the same.
+    fn of_all(policy: Policy<'a>) -> Policies<'a> {
+        Policies {
+            peer: 0,
+            import: policy,
+            export: policy,
+            others: policy,
+        }
+    }
+}
+
+/// What may come into force.
+#[derive(Clone, Copy)]
+pub enum Plan {
+    /// Nobody has a policy.
+    Nobody,
+    /// Every policy accepts everything.
+    Everybody,
+    /// The import policy of 1 prefers what passes 9.
+    Preferring,
+    /// The export policy of 3 rejects what has community 7.
+    BarringCommunity,
+    /// The export policy of 3 rejects the nine prefixes.
+    BarringNine,
+}
+
 /// The clauses that the policies are made of.
 #[derive(Drop)]
 pub struct Texts {
@@ -49,74 +76,46 @@ pub struct Texts {
 
 impl Texts {
     pub fn new() -> Texts {
-        let accept = clause(Test::Any, Action::Accept);
+        let accept = when(false, Test::Any, Action::Accept);
         Texts {
             lists: [nine()],
             accept: [accept],
             prefer: [
-                clause(Test::Passes { asn: 9 }, Action::SetLocalPref(200)),
+                when(false, Test::Passes { asn: 9 }, Action::SetLocalPref(200)),
                 accept,
             ],
             bar_community: [
-                clause(Test::HasCommunity { community: 7 }, Action::Reject),
+                when(false, Test::HasCommunity { community: 7 }, Action::Reject),
                 accept,
             ],
-            bar_nine: [clause(Test::PrefixIn { list: 0 }, Action::Reject), accept],
+            bar_nine: [
+                when(false, Test::PrefixIn { list: 0 }, Action::Reject),
+                accept,
+            ],
         }
     }
 
-    /// Nobody has a policy.
-    pub fn none(&self) -> Policies<'_> {
-        let none = self.policy(&[]);
-        Policies {
-            peer: 0,
-            import: none,
-            export: none,
-            others: none,
-        }
-    }
-
-    /// Every policy accepts everything.
-    pub fn everybody(&self) -> Policies<'_> {
+    /// The policies that a plan puts in force.
+    pub fn policies(&self, plan: Plan) -> Policies<'_> {
         let accept = self.policy(&self.accept);
-        Policies {
-            peer: 0,
-            import: accept,
-            export: accept,
-            others: accept,
-        }
-    }
-
-    /// The import policy of 1 prefers what passes 9.
-    pub fn preferring(&self) -> Policies<'_> {
-        let accept = self.policy(&self.accept);
-        Policies {
-            peer: 1,
-            import: self.policy(&self.prefer),
-            export: accept,
-            others: accept,
-        }
-    }
-
-    /// The export policy of 3 rejects what has community 7.
-    pub fn barring_community(&self) -> Policies<'_> {
-        let accept = self.policy(&self.accept);
-        Policies {
-            peer: 3,
-            import: accept,
-            export: self.policy(&self.bar_community),
-            others: accept,
-        }
-    }
-
-    /// The export policy of 3 rejects the nine prefixes.
-    pub fn barring_nine(&self) -> Policies<'_> {
-        let accept = self.policy(&self.accept);
-        Policies {
-            peer: 3,
-            import: accept,
-            export: self.policy(&self.bar_nine),
-            others: accept,
+        match plan {
+            Plan::Nobody => Policies::of_all(self.policy(&[])),
+            Plan::Everybody => Policies::of_all(accept),
+            Plan::Preferring => Policies {
+                peer: 1,
+                import: self.policy(&self.prefer),
+                ..Policies::of_all(accept)
+            },
+            Plan::BarringCommunity => Policies {
+                peer: 3,
+                export: self.policy(&self.bar_community),
+                ..Policies::of_all(accept)
+            },
+            Plan::BarringNine => Policies {
+                peer: 3,
+                export: self.policy(&self.bar_nine),
+                ..Policies::of_all(accept)
+            },
         }
     }
 
@@ -131,14 +130,11 @@ impl Texts {
     }
 }
 
-/// If the test fits, the action.
-fn clause(test: Test, action: Action) -> Clause
-    ensures { (parts_of result.condition ≡ (record { negated = false; test = test }) ∷ []) × (result.action ≡ action) }
-{
-    let mut condition = Condition::new();
-    let _ = condition.push(Part {
-        negated: false,
-        test,
-    });
-    Clause { condition, action }
+/// 10.1.0.0/16 to 10.9.0.0/16
+pub fn nine() -> PrefixList {
+    let mut list = PrefixList::new();
+    for k in 1..10 {
+        let _ = list.push(prefix_or_whole(167_772_160 + k * 65_536, 16));
+    }
+    list
 }

@@ -1,29 +1,36 @@
 //! Printing what peers are told.
+use example_words::Shown;
 use prefix::Prefix;
 use route::Route;
 use std::io;
 use telling::Sink;
 
-/// Prints the updates of a case's last event: those before it only lead to it.
+/// Where updates go that only lead to the last event of a case.
+#[derive(Clone, Copy)]
+pub struct Silence;
+
+impl Sink for Silence {
+    ghost sends = { λ s u t. Unit {0} };
+
+    fn send(&mut self, peer: u8, prefix: Prefix, route: Option<&Route>) {}
+}
+
+/// Prints the updates of a case's last event.
 #[derive(Drop)]
 pub struct Printer<'a> {
     rt: &'a HostRuntime,
     case: &'static str,
-    is_last: bool,
-    count: u64,
-    is_broken: bool,
+    /// Whether all that was told could be written; none where nobody was told anything.
+    told: Option<io::Result<()>>,
 }
 
 impl Sink for Printer<'_> {
     ghost sends = { λ s u t. Unit {0} };
 
     fn send(&mut self, peer: u8, prefix: Prefix, route: Option<&Route>) {
-        if !self.is_last {
-            return;
-        }
-        self.count = self.count.saturating_add(1);
-        if self.show(peer, prefix, route).is_err() {
-            self.is_broken = true;
+        let shown = self.show(peer, prefix, route);
+        if !matches!(self.told, Some(Err(_))) {
+            self.told = Some(shown);
         }
     }
 }
@@ -33,41 +40,27 @@ impl<'a> Printer<'a> {
         Printer {
             rt,
             case,
-            is_last: false,
-            count: 0,
-            is_broken: false,
+            told: None,
         }
-    }
-
-    /// The next event is the last.
-    pub fn last(&mut self) {
-        self.is_last = true;
     }
 
     /// Says so where nobody was told anything, and fails if something could not be written.
     pub fn end(self) -> io::Result<()> {
-        let rt = self.rt;
-        let case = self.case;
-        if self.is_broken {
-            return Err(io::Error::other("a line could not be written"));
+        let Printer { rt, case, told } = self;
+        match told {
+            Some(told) => told.map_err(|_| io::Error::other("a line could not be written")),
+            None => println!(rt; "{case}: nobody is told anything"),
         }
-        if self.count == 0 {
-            println!(rt; "{case}: nobody is told anything")?;
-        }
-        Ok(())
     }
 
     fn show(&self, peer: u8, prefix: Prefix, route: Option<&Route>) -> io::Result<()> {
         let rt = self.rt;
         let case = self.case;
-        let [a, b, c, d] = prefix.address().to_be_bytes();
-        let length = prefix.length();
+        let prefix = Shown(prefix);
         let Some(route) = route else {
-            return println!(rt;
-                "{case}: peer {peer} is told that there is none of {a}.{b}.{c}.{d}/{length}"
-            );
+            return println!(rt; "{case}: peer {peer} is told that there is none of {prefix}");
         };
-        print!(rt; "{case}: peer {peer} is told {a}.{b}.{c}.{d}/{length} by")?;
+        print!(rt; "{case}: peer {peer} is told {prefix} by")?;
         for asn in route.path.asns() {
             print!(rt; " {asn}")?;
         }

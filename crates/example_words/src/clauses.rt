@@ -4,16 +4,19 @@ use anyhow::anyhow;
 use policy::{Action, Clause, Condition, Part, Test};
 use std::str::SplitWhitespace;
 
+/// The most parts of a condition.
+const MOST_PARTS: u8 = 16;
+
 /// The clause that begins with that word.
 pub fn read_clause(word: &str, words: &mut SplitWhitespace<'_>) -> anyhow::Result<Clause> {
     let mut condition = Condition::new();
-    let mut more = word != "then";
-    for _ in 0..16 {
-        if !more {
-            break;
+    if word != "then" {
+        for _ in 0..MOST_PARTS {
+            let _ = condition.push(read_part(words)?);
+            if next(words)? == "then" {
+                break;
+            }
         }
-        condition.push(read_part(words)?);
-        more = next(words)? != "then";
     }
     let action = read_action(words)?;
     Ok(Clause { condition, action })
@@ -21,13 +24,12 @@ pub fn read_clause(word: &str, words: &mut SplitWhitespace<'_>) -> anyhow::Resul
 
 /// A test, or `not` and a test.
 pub fn read_part(words: &mut SplitWhitespace<'_>) -> anyhow::Result<Part> {
-    let word = next(words)?;
+    let mut word = next(words)?;
     let negated = word == "not";
-    let test = if negated {
-        read_test(next(words)?, words)?
-    } else {
-        read_test(word, words)?
-    };
+    if negated {
+        word = next(words)?;
+    }
+    let test = read_test(word, words)?;
     Ok(Part { negated, test })
 }
 

@@ -1,6 +1,7 @@
 //! Printing routes.
+use prefix::Prefix;
 use route::Route;
-use std::io;
+use std::{fmt, io};
 
 /// Prints the path, in brackets local preference and MED, and the communities.
 pub fn show_route(rt: &HostRuntime, route: &Route) -> io::Result<()> {
@@ -13,19 +14,27 @@ pub fn show_route(rt: &HostRuntime, route: &Route) -> io::Result<()> {
 
 /// Prints a row of numbers; 31 times 7 is `7*31`.
 pub fn show_numbers(rt: &HostRuntime, numbers: &[u32]) -> io::Result<()> {
-    let mut times = 0u64;
-    for (i, number) in numbers.iter().enumerate() {
-        let number = *number;
-        times = times.saturating_add(1);
-        if numbers.get(i + 1).copied() == Some(number) {
-            continue;
+    for run in numbers.chunk_by(|a, b| a == b) {
+        match run {
+            [] => {}
+            [number] => print!(rt; " {number}")?,
+            [number, ..] => {
+                let times = run.len();
+                print!(rt; " {number}*{times}")?;
+            }
         }
-        if times == 1 {
-            print!(rt; " {number}")?;
-        } else {
-            print!(rt; " {number}*{times}")?;
-        }
-        times = 0;
     }
     Ok(())
+}
+
+/// A prefix as it is written, as 10.0.0.0/8.
+#[derive(Clone, Copy)]
+pub struct Shown(pub Prefix);
+
+impl fmt::Display for Shown {
+    fn fmt<W: fmt::Write>(&self, f: &mut fmt::Formatter<W>) -> fmt::Result {
+        let [a, b, c, d] = self.0.address().to_be_bytes();
+        let length = self.0.length();
+        write!(f, "{a}.{b}.{c}.{d}/{length}")
+    }
 }

@@ -13,20 +13,10 @@ impl Damage {
     /// Does it to a message.
     pub fn apply(self, message: &mut Vec<u8>) -> Result<(), Problem> {
         match self {
-            Damage::Flip(place) => match message.get_mut(place) {
-                Some(byte) => {
-                    *byte ^= 255;
-                    Ok(())
-                }
-                None => Err(Problem::Shorter),
-            },
-            Damage::Cut(count) => {
-                if count > message.len() {
-                    return Err(Problem::Shorter);
-                }
-                message.truncate(count);
-                Ok(())
-            }
+            Damage::Flip(place) => *message.get_mut(place).ok_or(Problem::Shorter)? ^= 255,
+            Damage::Cut(count) if count <= message.len() => message.truncate(count),
+            Damage::Cut(_) => return Err(Problem::Shorter),
         }
+        Ok(())
     }
 }

@@ -1,18 +1,16 @@
 //! The parts of an UPDATE in words.
 use peer_messages::Update;
-use script_words::{Problem, Words, read_number, read_prefix};
+use script_words::{Prefix, Problem, Words, read_number};
 use std::alloc::Global;
 
 /// What the words at hand say.
-#[derive(Clone, Copy)]
+#[derive(Clone, Copy, Debug, PartialEq, Eq)]
 enum Part {
     Announced,
     Withdrawn,
     Path,
     Med,
     Communities,
-    /// Nothing: another part has to begin.
-    Done,
 }
 
 impl Part {
@@ -27,57 +25,55 @@ impl Part {
         }
     }
 
-    /// Takes in one word, and says what the next is of.
-    fn take(self, update: &mut Update, word: &str) -> Result<Part, Problem> {
+    /// Takes in one word, and says what the next is of; none where another part has to begin.
+    fn take(self, update: &mut Update, word: &str) -> Result<Option<Part>, Problem> {
         match self {
-            Part::Announced => update.announce(read_prefix(word)?)?,
-            Part::Withdrawn => update.withdraw(read_prefix(word)?)?,
+            Part::Announced => update.announce(word.parse::<Prefix>()?)?,
+            Part::Withdrawn => update.withdraw(word.parse::<Prefix>()?)?,
             Part::Path => update.add_asn(read_number(word)?)?,
             Part::Communities => update.add_community(read_number(word)?)?,
             Part::Med => {
                 update.set_med(read_number(word)?);
-                return Ok(Part::Done);
+                return Ok(None);
             }
-            Part::Done => return Err(Problem::Extra),
         }
-        Ok(self)
-    }
-
-    /// That a part may end here.
-    fn end(self) -> Result<(), Problem> {
-        match self {
-            Part::Med => Err(Problem::Missing),
-            Part::Announced | Part::Withdrawn | Part::Path | Part::Communities | Part::Done => Ok(
-                (),
-            ),
-        }
+        Ok(Some(self))
     }
 }
 
 /// The UPDATE of a line that announces.
 pub fn read_announcement(heap: Global, words: Words<'_>) -> Result<Update, Problem> {
     let mut update = Update::new(heap);
-    let mut part = Part::Announced;
+    let mut part = Some(Part::Announced);
     for word in words.rest() {
-        let Some(next) = Part::named(word) else {
-            part = part.take(&mut update, word)?;
+        let next = Part::named(word);
+        if next.is_none() {
+            part = part.ok_or(Problem::Extra)?.take(&mut update, word)?;
             continue;
-        };
-        part.end()?;
-        if let Part::Path = next {
+        }
+        end(part)?;
+        if next == Some(Part::Path) {
             update.begin_path(heap);
         }
         part = next;
     }
-    part.end()?;
+    end(part)?;
     Ok(update)
+}
+
+/// That a part may end here.
+fn end(part: Option<Part>) -> Result<(), Problem> {
+    if part == Some(Part::Med) {
+        return Err(Problem::Missing);
+    }
+    Ok(())
 }
 
 /// The UPDATE of a line that only withdraws.
 pub fn read_withdrawal(heap: Global, words: Words<'_>) -> Result<Update, Problem> {
     let mut update = Update::new(heap);
     for word in words.rest() {
-        update.withdraw(read_prefix(word)?)?;
+        update.withdraw(word.parse::<Prefix>()?)?;
     }
     Ok(update)
 }

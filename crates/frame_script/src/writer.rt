@@ -1,32 +1,45 @@
 //! From lines to frames.
 use crate::damage::Damage;
-use crate::framing::{put_message, put_settings, put_text};
+use crate::framing::{put_connection, put_message, put_settings, put_text};
 use crate::parts::{read_announcement, read_withdrawal};
+use kinds::{Connection, FrameKind};
 use peer_messages::{keepalive, notification, open};
-use script_words::{Peer, Problem, Words, read_address, read_peer};
+use script_words::{Address, Peer, Problem, Words};
 use std::alloc::Global;
+use std::error::Error;
+use std::fmt;
+use std::str::FromStr;
 
 /// The line of a script that is refused, counted from 1, and why.
-#[derive(Clone, Copy)]
+#[derive(Clone, Copy, Debug, PartialEq, Eq)]
 pub struct Refused {
     pub line: u64,
     pub problem: Problem,
 }
 
+impl fmt::Display for Refused {
+    fn fmt<W: fmt::Write>(&self, f: &mut fmt::Formatter<W>) -> fmt::Result {
+        let Refused { line, problem } = *self;
+        write!(f, "line {line}: {problem}")
+    }
+}
+
+impl Error for Refused {}
+
 /// The frames of a script.
 pub fn frames(heap: Global, script: &str) -> Result<Vec<u8>, Refused> {
     let mut writer = Writer::new(heap);
-    let mut line = 0u64;
-    for words in script.lines() {
-        line = line.saturating_add(1);
-        if let Err(problem) = writer.line(words) {
-            return Err(Refused { line, problem });
-        }
+    let mut last = 0;
+    for (words, line) in script.lines().zip(1u64..) {
+        writer
+            .line(words)
+            .map_err(|problem| Refused { line, problem })?;
+        last = line;
     }
-    match writer.end() {
-        Ok(bytes) => Ok(bytes),
-        Err(problem) => Err(Refused { line, problem }),
-    }
+    writer.end().map_err(|problem| Refused {
+        line: last,
+        problem,
+    })
 }
 
 #[derive(Drop)]
@@ -64,8 +77,8 @@ impl Writer {
     }
 
     fn line(&mut self, line: &str) -> Result<(), Problem> {
-        if self.text.is_some() {
-            return self.text_line(line);
+        if let Some(text) = self.text.take() {
+            return self.text_line(text, line);
         }
         let mut words = Words::of(line);
         let Some(verb) = words.next() else {
@@ -73,8 +86,8 @@ impl Writer {
         };
         match verb {
             "settings" => self.settings(words),
-            "up" => self.session(words, 1),
-            "down" => self.session(words, 0),
+            "up" => self.connection(words, Connection::Up),
+            "down" => self.connection(words, Connection::Down),
             "tick" => self.ticks(words, 1),
             "ticks" => {
                 let count = words.number()?;
@@ -93,31 +106,27 @@ impl Writer {
                 let count = words.number()?;
                 self.damage(Damage::Cut(count as usize), words)
             }
-            _ => self.message(verb, words),
+            _ => self.message(verb.parse::<Kind>()?, words),
         }
     }
 
     /// A line of a policy text, or its end.
-    fn text_line(&mut self, line: &str) -> Result<(), Problem> {
+    fn text_line(&mut self, mut text: Vec<u8>, line: &str) -> Result<(), Problem> {
         if line.trim() == "end" {
-            let Some(text) = self.text.take() else {
-                return Ok(());
-            };
             return put_text(&mut self.out, text.as_slice());
         }
-        if let Some(text) = &mut self.text {
-            text.extend_from_slice(line.as_bytes())?;
-            text.extend_from_slice(b"\n")?;
-        }
+        text.extend_from_slice(line.as_bytes())?;
+        text.extend_from_slice(b"\n")?;
+        self.text = Some(text);
         Ok(())
     }
 
     fn settings(&mut self, mut words: Words<'_>) -> Result<(), Problem> {
         let asn = words.number()?;
-        let address = read_address(words.word()?)?;
+        let address = words.word()?.parse::<Address>()?;
         let mut peers = Vec::new(self.heap);
         for word in words.rest() {
-            peers.extend_from_slice(&[read_peer(word)?])?;
+            peers.push(word.parse::<Peer>()?)?;
         }
         put_settings(&mut self.out, Peer { asn, address }, peers.as_slice())?;
         if self.peers.is_none() && peers.len() <= 64 {
@@ -126,31 +135,27 @@ impl Writer {
         Ok(())
     }
 
-    /// A session's connection comes up (1) or breaks (0).
-    fn session(&mut self, mut words: Words<'_>, state: u8) -> Result<(), Problem> {
-        let peer = words.small()?;
-        self.out.extend_from_slice(&[2, peer, state])?;
+    /// The connection to a peer comes up or breaks.
+    fn connection(&mut self, mut words: Words<'_>, state: Connection) -> Result<(), Problem> {
+        put_connection(&mut self.out, words.small()?, state)?;
         words.end()
     }
 
     fn ticks(&mut self, words: Words<'_>, count: u32) -> Result<(), Problem> {
         for _ in 0..count {
-            self.out.extend_from_slice(&[3])?;
+            self.out.push(u8::from(FrameKind::Tick))?;
         }
         words.end()
     }
 
     /// Something to do to the next message.
     fn damage(&mut self, damage: Damage, words: Words<'_>) -> Result<(), Problem> {
-        self.damages.extend_from_slice(&[damage])?;
+        self.damages.push(damage)?;
         words.end()
     }
 
     /// A message of a peer, with the damage that was asked for.
-    fn message(&mut self, verb: &str, mut words: Words<'_>) -> Result<(), Problem> {
-        let Some(kind) = Kind::named(verb) else {
-            return Err(Problem::Unknown);
-        };
+    fn message(&mut self, kind: Kind, mut words: Words<'_>) -> Result<(), Problem> {
         let peer = words.small()?;
         let mut message = self.content(kind, peer, words)?;
         for damage in self.damages.iter() {
@@ -193,13 +198,11 @@ impl Writer {
 
     /// A peer by its number in the settings.
     fn peer(&self, number: u8) -> Result<Peer, Problem> {
-        let Some(peers) = &self.peers else {
-            return Err(Problem::NotInSettings);
-        };
-        match peers.get(usize::from(number)) {
-            Some(peer) => Ok(*peer),
-            None => Err(Problem::NotInSettings),
-        }
+        let peers = self.peers.as_ref().ok_or(Problem::NotInSettings)?;
+        peers
+            .get(usize::from(number))
+            .copied()
+            .ok_or(Problem::NotInSettings)
     }
 }
 
@@ -214,17 +217,19 @@ enum Kind {
     Bytes,
 }
 
-impl Kind {
-    /// The kind of a line that begins with this word.
-    fn named(verb: &str) -> Option<Kind> {
+/// The kind of a line, by the word that it begins with.
+impl FromStr for Kind {
+    type Err = Problem;
+
+    fn from_str(verb: &str) -> Result<Kind, Problem> {
         match verb {
-            "open" => Some(Kind::Open),
-            "keepalive" => Some(Kind::Keepalive),
-            "notification" => Some(Kind::Notification),
-            "announce" => Some(Kind::Announce),
-            "withdraw" => Some(Kind::Withdraw),
-            "bytes" => Some(Kind::Bytes),
-            _ => None,
+            "open" => Ok(Kind::Open),
+            "keepalive" => Ok(Kind::Keepalive),
+            "notification" => Ok(Kind::Notification),
+            "announce" => Ok(Kind::Announce),
+            "withdraw" => Ok(Kind::Withdraw),
+            "bytes" => Ok(Kind::Bytes),
+            _ => Err(Problem::Unknown),
         }
     }
 }

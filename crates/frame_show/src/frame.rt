@@ -1,66 +1,118 @@
-//! Reading frames.
-use wire::{byte_at, cut, skip, u16_of, u32_of};
+//! Frames.
+ghost use Rattle.std.specs.Prelude.{◌<◌, length, IfSome};
+
+use crate::message::Message;
+use crate::rows::{Bytes, Cut, Row, cut_sized};
+use kinds::{Connection, FrameKind};
+use script_words::Peer;
+use std::fmt;
 
 #[derive(Clone, Copy)]
 pub enum Frame<'a> {
-    From { peer: u8, message: &'a [u8] },
-    Up { peer: u8 },
-    Down { peer: u8 },
+    From { peer: u8, message: Message<'a> },
+    To { peer: u8, message: Message<'a> },
+    Connection { peer: u8, state: Connection },
     Tick,
     Text { text: &'a [u8] },
-    Settings { own: &'a [u8], peers: &'a [u8] },
-    To { peer: u8, message: &'a [u8] },
+    Settings { own: Peer, peers: Row<'a, Peer> },
     Close { peer: u8 },
+    /// Bytes that begin with no frame.
+    Other(Bytes<'a>),
 }
 
-/// The first frame, and what is behind it; none where there is no frame that can be read.
-pub fn read_frame(bytes: &[u8]) -> Option<(Frame<'_>, &[u8])> {
-    match byte_at(bytes, 0) {
-        1 | 16 => read_message_frame(bytes),
-        2 => read_session_frame(bytes),
-        3 => {
-            let (_, rest) = cut(bytes, 1)?;
-            Some((Frame::Tick, rest))
+/// The first frame, and what is behind it. Where there is no frame that can be read it is all the bytes.
+impl<'a> Cut<'a> for Frame<'a> {
+    fn cut(bytes: &'a [u8]) -> Option<(Frame<'a>, &'a [u8])> {
+        if bytes.is_empty() {
+            return None;
         }
-        4 => {
-            let (head, rest) = cut(bytes, 5)?;
-            let (text, rest) = cut(rest, u32_of(skip(head, 1)) as usize)?;
+        Some(cut_frame(bytes).unwrap_or((Frame::Other(Bytes(bytes)), &[])))
+    }
+}
+
+fn cut_frame(bytes: &[u8]) -> Option<(Frame<'_>, &[u8])>
+    ensures { IfSome result (λ p. length p.1.now < length bytes.now) }
+{
+    let (kind, rest) = u8::cut(bytes)?;
+    match FrameKind::try_from(kind).ok()? {
+        FrameKind::Message => {
+            let (peer, message, rest) = cut_message(rest)?;
+            Some((Frame::From { peer, message }, rest))
+        }
+        FrameKind::ToPeer => {
+            let (peer, message, rest) = cut_message(rest)?;
+            Some((Frame::To { peer, message }, rest))
+        }
+        FrameKind::Connection => {
+            let (peer, rest) = u8::cut(rest)?;
+            let (state, rest) = u8::cut(rest)?;
+            let state = Connection::try_from(state).ok()?;
+            Some((Frame::Connection { peer, state }, rest))
+        }
+        FrameKind::Tick => Some((Frame::Tick, rest)),
+        FrameKind::PolicyText => {
+            let (size, rest) = u32::cut(rest)?;
+            let (text, rest) = rest.split_at_checked(size as usize)?;
             Some((Frame::Text { text }, rest))
         }
-        5 => {
-            let (head, rest) = cut(bytes, 10)?;
-            let (peers, rest) = cut(rest, 8 * usize::from(byte_at(head, 1)))?;
-            let own = skip(head, 2);
-            Some((Frame::Settings { own, peers }, rest))
-        }
-        17 => {
-            let (head, rest) = cut(bytes, 2)?;
-            let peer = byte_at(head, 1);
+        FrameKind::Settings => cut_settings(rest),
+        FrameKind::Close => {
+            let (peer, rest) = u8::cut(rest)?;
             Some((Frame::Close { peer }, rest))
         }
-        _ => None,
     }
 }
 
-/// A frame with a message.
-fn read_message_frame(bytes: &[u8]) -> Option<(Frame<'_>, &[u8])> {
-    let (head, rest) = cut(bytes, 4)?;
-    let (message, rest) = cut(rest, usize::from(u16_of(skip(head, 2))))?;
-    let peer = byte_at(head, 1);
-    if byte_at(head, 0) == 1 {
-        Some((Frame::From { peer, message }, rest))
-    } else {
-        Some((Frame::To { peer, message }, rest))
+/// The peer's number and the message behind the kind of a frame, and what is behind them.
+fn cut_message(bytes: &[u8]) -> Option<(u8, Message<'_>, &[u8])>
+    ensures { IfSome result (λ p. length p.2.now < length bytes.now) }
+{
+    let (peer, rest) = u8::cut(bytes)?;
+    let (message, rest) = cut_sized::<u16>(rest)?;
+    Some((peer, Message::from(message), rest))
+}
+
+/// Settings behind the kind of a frame, and what is behind them.
+fn cut_settings(bytes: &[u8]) -> Option<(Frame<'_>, &[u8])>
+    ensures { IfSome result (λ p. length p.1.now < length bytes.now) }
+{
+    let (count, rest) = u8::cut(bytes)?;
+    let (own, rest) = Peer::cut(rest)?;
+    let (peers, rest) = rest.split_at_checked(8 * usize::from(count))?;
+    let peers = Row::of(peers);
+    Some((Frame::Settings { own, peers }, rest))
+}
+
+impl fmt::Display for Frame<'_> {
+    fn fmt<W: fmt::Write>(&self, f: &mut fmt::Formatter<W>) -> fmt::Result {
+        match self {
+            Frame::From { peer, message } => write!(f, "from {peer}: {message}"),
+            Frame::To { peer, message } => write!(f, "to {peer}: {message}"),
+            Frame::Connection { peer, state } => match state {
+                Connection::Up => write!(f, "up {peer}"),
+                Connection::Down => write!(f, "down {peer}"),
+            },
+            Frame::Tick => write!(f, "tick"),
+            Frame::Text { text } => write_text(f, text),
+            Frame::Settings { own, peers } => {
+                let Peer { asn, address } = *own;
+                write!(f, "settings {asn} {address}{peers}")
+            }
+            Frame::Close { peer } => write!(f, "close {peer}"),
+            Frame::Other(bytes) => write!(f, "{bytes}"),
+        }
     }
 }
 
-/// A frame of a connection that comes up or breaks.
-fn read_session_frame(bytes: &[u8]) -> Option<(Frame<'_>, &[u8])> {
-    let (head, rest) = cut(bytes, 3)?;
-    let peer = byte_at(head, 1);
-    match byte_at(head, 2) {
-        0 => Some((Frame::Down { peer }, rest)),
-        1 => Some((Frame::Up { peer }, rest)),
-        _ => None,
+/// A policy text, from `text` to `end`; in bytes where it is no text.
+fn write_text<W: fmt::Write>(f: &mut fmt::Formatter<W>, text: &[u8]) -> fmt::Result {
+    let Ok(words) = std::str::from_utf8(text) else {
+        let bytes = Bytes(text);
+        return write!(f, "text {bytes}");
+    };
+    writeln!(f, "text")?;
+    for line in words.lines() {
+        writeln!(f, "{line}")?;
     }
+    write!(f, "end")
 }

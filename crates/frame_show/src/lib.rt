@@ -16,7 +16,18 @@
 
 mod frame;
 mod message;
-mod shown;
+mod rows;
 mod update;
 
-pub use shown::show;
+use frame::Frame;
+use rows::Row;
+use std::alloc::AllocError;
+use std::fmt::Write;
+
+/// Shows all frames, one to a line.
+pub fn show(out: &mut String, bytes: &[u8]) -> Result<(), AllocError> {
+    for frame in Row::<Frame<'_>>::of(bytes).flatten() {
+        writeln!(out, "{frame}")?;
+    }
+    Ok(())
+}

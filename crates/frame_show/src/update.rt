@@ -1,131 +1,117 @@
-//! Reading UPDATEs.
-use wire::{byte_at, cut, skip, u16_of, u32_of};
+//! UPDATEs.
+ghost use Rattle.std.specs.Prelude.{◌<◌, length, IfSome};
 
-/// Flags of attributes, as bits.
-const OPTIONAL: u8 = 0x80;
+use crate::rows::{Cut, Row, cut_sized};
+use kinds::{AttributeKind, EXTENDED_LENGTH};
+use script_words::Prefix;
+use std::fmt;
 
-const TRANSITIVE: u8 = 0x40;
-
-const EXTENDED_LENGTH: u8 = 0x10;
-
-/// What an UPDATE says: prefixes as they are written, and networks and communities in 4 bytes each.
+/// What an UPDATE says: prefixes as they are written, networks and communities.
 #[derive(Clone, Copy)]
 pub struct Update<'a> {
-    pub announced: &'a [u8],
-    pub withdrawn: &'a [u8],
-    pub path: Option<&'a [u8]>,
-    pub med: Option<u32>,
-    pub communities: &'a [u8],
-}
-
-/// A prefix, with up to 32 bits.
-#[derive(Clone, Copy)]
-pub struct Prefix {
-    pub address: u32,
-    pub length: u8,
+    announced: Row<'a, Prefix>,
+    withdrawn: Row<'a, Prefix>,
+    path: Option<Row<'a, u32>>,
+    med: Option<u32>,
+    communities: Row<'a, u32>,
 }
 
 /// The UPDATE, if the body of a message is one whose attributes are known and have the right flags.
 pub fn read_update(body: &[u8]) -> Option<Update<'_>> {
-    let (withdrawn, rest) = cut_sized(body)?;
-    let (attributes, announced) = cut_sized(rest)?;
-    if !are_prefixes(withdrawn) || !are_prefixes(announced) {
-        return None;
-    }
+    let (withdrawn, rest) = cut_sized::<u16>(body)?;
+    let (attributes, announced) = cut_sized::<u16>(rest)?;
     let mut update = Update {
-        announced,
-        withdrawn,
+        announced: read_prefixes(announced)?,
+        withdrawn: read_prefixes(withdrawn)?,
         path: None,
         med: None,
-        communities: &[],
+        communities: Row::of(&[]),
     };
-    let mut rest = attributes;
-    for _ in 0..attributes.len() {
-        if rest.is_empty() {
-            break;
-        }
-        let (head, value, after) = cut_attribute(rest)?;
-        update = update.with(head, value)?;
-        rest = after;
+    for attribute in Row::<Attribute<'_>>::of(attributes) {
+        update.add(attribute?)?;
     }
     Some(update)
 }
 
-/// A part that has its length in 2 bytes in front, and what is behind it.
-fn cut_sized(bytes: &[u8]) -> Option<(&[u8], &[u8])> {
-    let (size, rest) = cut(bytes, 2)?;
-    cut(rest, usize::from(u16_of(size)))
+/// The prefixes, if a part holds prefixes and nothing else.
+fn read_prefixes(part: &[u8]) -> Option<Row<'_, Prefix>> {
+    if Row::<Prefix>::of(part).all(|prefix| prefix.is_some()) {
+        Some(Row::of(part))
+    } else {
+        None
+    }
 }
 
-/// The flags and type of an attribute, its value, and what is behind it.
-fn cut_attribute(bytes: &[u8]) -> Option<(&[u8], &[u8], &[u8])> {
-    let (head, rest) = cut(bytes, 2)?;
-    if byte_at(head, 0) & EXTENDED_LENGTH != 0 {
-        let (value, after) = cut_sized(rest)?;
-        return Some((head, value, after));
+/// An attribute. One with the flag 16 has its length in 2 bytes.
+#[derive(Clone, Copy)]
+struct Attribute<'a> {
+    flags: u8,
+    kind: u8,
+    value: &'a [u8],
+}
+
+impl<'a> Cut<'a> for Attribute<'a> {
+    fn cut(bytes: &'a [u8]) -> Option<(Attribute<'a>, &'a [u8])> {
+        let (flags, rest) = u8::cut(bytes)?;
+        let (kind, rest) = u8::cut(rest)?;
+        let (value, rest) = if flags & EXTENDED_LENGTH != 0 {
+            cut_sized::<u16>(rest)?
+        } else {
+            cut_sized::<u8>(rest)?
+        };
+        Some((Attribute { flags, kind, value }, rest))
     }
-    let (size, rest) = cut(rest, 1)?;
-    let (value, after) = cut(rest, usize::from(byte_at(size, 0)))?;
-    Some((head, value, after))
 }
 
 impl<'a> Update<'a> {
-    /// With one attribute more, if it is known.
-    fn with(self, head: &[u8], value: &'a [u8]) -> Option<Update<'a>> {
-        let flags = byte_at(head, 0) & !EXTENDED_LENGTH;
-        let size = value.len();
-        match byte_at(head, 1) {
-            1 if flags == TRANSITIVE && size == 1 => Some(self),
-            2 if flags == TRANSITIVE => Some(Update {
-                path: Some(read_sequence(value)?),
-                ..self
-            }),
-            3 if flags == TRANSITIVE && size == 4 => Some(self),
-            4 if flags == OPTIONAL && size == 4 => Some(Update {
-                med: Some(u32_of(value)),
-                ..self
-            }),
-            8 if flags == OPTIONAL | TRANSITIVE && size % 4 == 0 => Some(Update {
-                communities: value,
-                ..self
-            }),
-            _ => None,
+    /// Takes in one attribute, if it is known and has the right flags.
+    fn add(&mut self, attribute: Attribute<'a>) -> Option<()> {
+        let kind = AttributeKind::try_from(attribute.kind).ok()?;
+        if attribute.flags & !EXTENDED_LENGTH != kind.flags() {
+            return None;
         }
+        let value = attribute.value;
+        match kind {
+            AttributeKind::Origin if value.len() == 1 => {}
+            AttributeKind::Path => self.path = Some(Row::of(read_sequence(value)?)),
+            AttributeKind::NextHop if value.len() == 4 => {}
+            AttributeKind::Med if value.len() == 4 => self.med = Some(u32::cut(value)?.0),
+            AttributeKind::Communities if value.len() % 4 == 0 => {
+                self.communities = Row::of(value);
+            }
+            AttributeKind::Origin
+            | AttributeKind::NextHop
+            | AttributeKind::Med
+            | AttributeKind::Communities => return None,
+        }
+        Some(())
     }
 }
 
 /// The networks of a path that is one sequence, or empty.
 fn read_sequence(value: &[u8]) -> Option<&[u8]> {
-    if value.is_empty() {
-        return Some(value);
+    match value {
+        [] => Some(value),
+        [2, count, asns @ ..] if asns.len() == 4 * usize::from(*count) => Some(asns),
+        _ => None,
     }
-    let (head, asns) = cut(value, 2)?;
-    if byte_at(head, 0) != 2 || asns.len() != 4 * usize::from(byte_at(head, 1)) {
-        return None;
-    }
-    Some(asns)
 }
 
-/// Whether a part holds prefixes and nothing else.
-fn are_prefixes(part: &[u8]) -> bool {
-    let mut rest = part;
-    for _ in 0..part.len() {
-        let Some((_, after)) = next_prefix(rest) else {
-            break;
-        };
-        rest = after;
+impl fmt::Display for Update<'_> {
+    fn fmt<W: fmt::Write>(&self, f: &mut fmt::Formatter<W>) -> fmt::Result {
+        write!(f, "{}", self.announced)?;
+        if let Some(path) = &self.path {
+            write!(f, " by{path}")?;
+        }
+        if let Some(med) = self.med {
+            write!(f, " med {med}")?;
+        }
+        if !self.communities.is_empty() {
+            write!(f, " communities{}", self.communities)?;
+        }
+        if !self.withdrawn.is_empty() {
+            write!(f, " withdraw{}", self.withdrawn)?;
+        }
+        Ok(())
     }
-    rest.is_empty()
-}
-
-/// The first prefix, and what is behind it.
-pub fn next_prefix(part: &[u8]) -> Option<(Prefix, &[u8])> {
-    let (head, rest) = cut(part, 1)?;
-    let length = byte_at(head, 0);
-    if length > 32 {
-        return None;
-    }
-    let (bytes, after) = cut(rest, (usize::from(length) + 7) / 8)?;
-    let address = u32_of(bytes);
-    Some((Prefix { address, length }, after))
 }

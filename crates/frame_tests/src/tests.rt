@@ -1,4 +1,4 @@
-use frame::event::{Defect, Event, Reading, Refusal};
+use frame::event::{Defect, Event, Reading, Refusal, Unread, Whole};
 use frame::reading::{read_event, read_settings};
 use frame::settings::{Peer, Settings};
 use intake::turns::{Intake, Step};
@@ -27,14 +27,21 @@ enum Seen {
     Unreadable(Defect),
 }
 
+/// What was read, where `shown` says what a whole frame is, and how many of the bytes count.
+fn outcome<T: Drop, F: FnOnce(T) -> Seen>(reading: Reading<T>, shown: F) -> (Seen, usize)
+    requires { F.IsAlwaysCallable shown }
+{
+    match reading {
+        Ok(Whole { content, size }) => (shown(content), size),
+        Err(Unread::Refused { refusal, size }) => (Seen::Refused(refusal), size),
+        Err(Unread::More) => (Seen::More, 0),
+        Err(Unread::Unreadable { defect }) => (Seen::Unreadable(defect), 0),
+    }
+}
+
 /// What these bytes are read as before settings, and how many of them count.
 fn before(bytes: &[u8]) -> (Seen, usize) {
-    match read_settings(bytes) {
-        Reading::Whole { content: _, size } => (Seen::Settings, size),
-        Reading::Refused { refusal, size } => (Seen::Refused(refusal), size),
-        Reading::More => (Seen::More, 0),
-        Reading::Unreadable { defect } => (Seen::Unreadable(defect), 0),
-    }
+    outcome(read_settings(bytes), |_| Seen::Settings)
 }
 
 fn shown(event: Event<'_>) -> Seen {
@@ -56,12 +63,7 @@ fn shown(event: Event<'_>) -> Seen {
 
 /// The same under settings.
 fn under(settings: &Settings, bytes: &[u8]) -> (Seen, usize) {
-    match read_event(settings, bytes) {
-        Reading::Whole { content, size } => (shown(content), size),
-        Reading::Refused { refusal, size } => (Seen::Refused(refusal), size),
-        Reading::More => (Seen::More, 0),
-        Reading::Unreadable { defect } => (Seen::Unreadable(defect), 0),
-    }
+    outcome(read_event(settings, bytes), shown)
 }
 
 /// A settings frame with so many peers.
@@ -87,7 +89,7 @@ fn text_frame(heap: Global, length: u32) -> Result<Vec<u8>, AllocError> {
 fn settings(heap: Global, count: u8) -> Result<Settings, Fail> {
     let frame = settings_frame(heap, count)?;
     match read_settings(frame.as_slice()) {
-        Reading::Whole { content, size: _ } => Ok(content),
+        Ok(Whole { content, size: _ }) => Ok(content),
         _ => Err(Fail::new("no settings")),
     }
 }
@@ -221,24 +223,25 @@ fn texts(rt: HostRuntime) -> Result<(), Fail> {
 }
 
 /// Each part of a frame from its start, but for the whole, needs more.
-fn check_parts(rt: &impl Abort, settings: &Settings, frame: &[u8]) {
+fn check_parts<F: Fn(&[u8]) -> (Seen, usize)>(rt: &impl Abort, read: F, frame: &[u8])
+    requires { F.IsAlwaysCallable read }
+{
     for n in 0..frame.len() {
-        assert_eq!(rt; under(settings, &frame[0..n]), (Seen::More, 0));
+        assert_eq!(rt; read(&frame[0..n]), (Seen::More, 0));
     }
 }
 
 #[test]
 fn parts_of_frames(rt: HostRuntime) -> Result<(), Fail> {
     let three = settings(rt.alloc(), 3)?;
-    check_parts(&rt, &three, &[1, 0, 0, 2, 9, 9]);
-    check_parts(&rt, &three, &[2, 0, 1]);
-    check_parts(&rt, &three, &[3]);
-    check_parts(&rt, &three, &[4, 0, 0, 0, 2, 35, 35]);
+    let under_three = |bytes: &[u8]| under(&three, bytes);
+    check_parts(&rt, &under_three, &[1, 0, 0, 2, 9, 9]);
+    check_parts(&rt, &under_three, &[2, 0, 1]);
+    check_parts(&rt, &under_three, &[3]);
+    check_parts(&rt, &under_three, &[4, 0, 0, 0, 2, 35, 35]);
     let frame = settings_frame(rt.alloc(), 3)?;
-    check_parts(&rt, &three, frame.as_slice());
-    for n in 0..frame.len() {
-        assert_eq!(rt; before(&frame[0..n]), (Seen::More, 0));
-    }
+    check_parts(&rt, &under_three, frame.as_slice());
+    check_parts(&rt, before, frame.as_slice());
     Ok(())
 }
 

@@ -29,17 +29,9 @@ fn run(rt: &HostRuntime) -> anyhow::Result<()> {
 fn write_frames(rt: &HostRuntime) -> anyhow::Result<()> {
     let heap = rt.alloc();
     let script = io::read_to_string(heap, rt.stdin())?;
-    match frames(heap, script.as_str()) {
-        Ok(bytes) => {
-            rt.stdout().write_all(bytes.as_slice())?;
-            Ok(())
-        }
-        Err(refused) => {
-            let line = refused.line;
-            let words = refused.problem.words();
-            Err(anyhow!(format!(in heap; "line {line}: {words}")?))
-        }
-    }
+    let bytes = frames(heap, script.as_str())?;
+    rt.stdout().write_all(bytes.as_slice())?;
+    Ok(())
 }
 
 /// Frames to words.

@@ -26,11 +26,7 @@ fn show_script(rt: &HostRuntime, script: &str) -> anyhow::Result<()> {
             show(&mut words, bytes.as_slice())?;
             rt.print(words)?;
         }
-        Err(refused) => {
-            let line = refused.line;
-            let words = refused.problem.words();
-            println!(rt; "line {line}: {words}")?;
-        }
+        Err(refused) => println!(rt; "{refused}")?,
     }
     Ok(())
 }

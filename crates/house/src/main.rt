@@ -2,62 +2,21 @@
 //! and relays nothing yet. A fault is told on standard error, in a line with its number.
 #![tactic(auto)]
 
-use frame::event::{Defect, Refusal};
-use intake::buffer::Buffer;
-use intake::turns::{Intake, Step};
+use house_parts::Inlet;
+use intake::turns::Step;
 use std::io;
 
 fn main(rt: HostRuntime) -> io::Result<()> {
-    let mut source = rt.stdin();
-    let mut buffer = Buffer::new();
-    let mut intake = Intake::new();
+    let mut inlet = Inlet::new(&rt, rt.stdin());
     for _ in 0..u64::MAX {
-        let turn = intake.next(buffer.at_hand());
-        let taken = turn.taken;
-        match turn.step {
-            Step::Settings | Step::Event { .. } => buffer.take(taken),
-            Step::Refused { refusal } => {
-                report_refusal(&rt, refusal);
-                buffer.take(taken);
-            }
-            Step::More => {
-                buffer.take(taken);
-                if buffer.fill(&mut source)? == 0 {
-                    if let Some(defect) = intake.end(buffer.at_hand()) {
-                        report_defect(&rt, defect);
-                    }
-                    break;
-                }
-            }
-            Step::Unreadable { defect } => {
-                report_defect(&rt, defect);
-                break;
-            }
+        let is_ended = match inlet.next() {
+            Step::Settings | Step::Event { .. } | Step::Refused { .. } => false,
+            Step::More => !inlet.fill()?,
+            Step::Unreadable { .. } => true,
+        };
+        if is_ended {
+            break;
         }
     }
     Ok(())
-}
-
-/// Tells of a frame that was passed over. A line that cannot be written stops nothing.
-fn report_refusal(rt: &HostRuntime, refusal: Refusal) {
-    let words = match refusal {
-        Refusal::NoSettings => "a frame before settings is passed over",
-        Refusal::SettingsAgain => "settings a second time are passed over",
-        Refusal::TooManyPeers => "settings with more than 64 peers are passed over",
-        Refusal::TextTooLong => "a policy text of more than 65,536 bytes is passed over",
-    };
-    let code = refusal.fault().code();
-    let _ = eprintln!(rt; "fault {code}: {words}");
-}
-
-/// Tells of a frame that cannot be read. A line that cannot be written stops nothing.
-fn report_defect(rt: &HostRuntime, defect: Defect) {
-    let words = match defect {
-        Defect::UnknownKind => "a frame of an unknown kind cannot be read",
-        Defect::UnknownPeer => "a frame of a peer that the settings do not have cannot be read",
-        Defect::UnknownState => "a session frame that says neither up nor down cannot be read",
-        Defect::Cut => "the input ends inside a frame",
-    };
-    let code = defect.fault().code();
-    let _ = eprintln!(rt; "fault {code}: {words}");
 }

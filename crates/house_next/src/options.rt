@@ -8,23 +8,21 @@ pub enum Task {
     Serve { verbose: bool },
     /// To say what it is.
     Help,
-    /// Something that it doesn't know.
-    Unknown,
 }
 
-/// What the arguments ask for.
-pub fn read_task(rt: &HostRuntime) -> io::Result<Task> {
+/// What the arguments ask for; none where there is one that it doesn't know.
+pub fn read_task(rt: &HostRuntime) -> io::Result<Option<Task>> {
     let mut verbose = false;
     let mut words = env::args(rt)?;
     let _ = words.next();
     for word in words {
         match word.as_str() {
             "-v" => verbose = true,
-            "--help" => return Ok(Task::Help),
-            _ => return Ok(Task::Unknown),
+            "--help" => return Ok(Some(Task::Help)),
+            _ => return Ok(None),
         }
     }
-    Ok(Task::Serve { verbose })
+    Ok(Some(Task::Serve { verbose }))
 }
 
 /// Says what the program is.

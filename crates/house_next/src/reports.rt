@@ -1,38 +1,16 @@
 //! What is told on standard error. A line that cannot be written stops nothing.
 use configuration::TextRefusal;
-use frame::event::{Defect, Refusal};
+use house_parts::FaultLine;
 use message::{Message, Peer, State, read};
 use session::Phase;
 
-/// Tells of a frame that was passed over.
-pub fn report_refusal(rt: &HostRuntime, refusal: Refusal) {
-    let words = match refusal {
-        Refusal::NoSettings => "a frame before settings is passed over",
-        Refusal::SettingsAgain => "settings a second time are passed over",
-        Refusal::TooManyPeers => "settings with more than 64 peers are passed over",
-        Refusal::TextTooLong => "a policy text of more than 65,536 bytes is passed over",
-    };
-    let code = refusal.fault().code();
-    let _ = eprintln!(rt; "fault {code}: {words}");
-}
-
-/// Tells of a frame that cannot be read.
-pub fn report_defect(rt: &HostRuntime, defect: Defect) {
-    let words = match defect {
-        Defect::UnknownKind => "a frame of an unknown kind cannot be read",
-        Defect::UnknownPeer => "a frame of a peer that the settings do not have cannot be read",
-        Defect::UnknownState => "a session frame that says neither up nor down cannot be read",
-        Defect::Cut => "the input ends inside a frame",
-    };
-    let code = defect.fault().code();
-    let _ = eprintln!(rt; "fault {code}: {words}");
-}
-
 /// Tells of a policy text that was refused.
 pub fn report_text(rt: &HostRuntime, refusal: &TextRefusal, text: &[u8]) {
-    let code = refusal.fault().code();
-    let line = refusal.line(text);
-    let _ = eprintln!(rt; "fault {code}: {line}");
+    let line = FaultLine {
+        fault: refusal.fault(),
+        words: refusal.line(text),
+    };
+    let _ = eprintln!(rt; "{line}");
 }
 
 /// Tells of a session that came up.

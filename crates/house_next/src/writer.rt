@@ -11,6 +11,7 @@ use std::io::{BufWriter, Write};
 #[derive(Drop)]
 pub struct FrameWriter<W: Write + Drop> {
     writer: BufWriter<W>,
+    // A flag: `Output` has no error to answer, and the program ends in the same way whatever it was.
     broken: bool,
 }
 

@@ -1,12 +1,14 @@
 //! One play: events go in, and what goes out is shown.
 use crate::outlet::Outlet;
-use crate::reports::{defect_words, refusal_words};
-use anyhow::anyhow;
-use frame::event::{Defect, Event};
+use crate::reports::{defect_line, refusal_line};
+use anyhow::Context;
+use frame::event::Event;
 use frame_show::show;
+use house_parts::FaultLine;
 use intake::turns::{Intake, Step};
 use rib::Rib;
 use speaker::Speaker;
+use std::fmt;
 use table::Table;
 use wire::{cut, skip};
 
@@ -14,79 +16,81 @@ use wire::{cut, skip};
 #[derive(Drop)]
 pub struct Hall<'a> {
     rt: &'a HostRuntime,
-    size: usize,
-    hidden: usize,
+    intake: Intake,
+    speaker: Speaker<Table, Outlet>,
+    /// How many bytes are left at that place.
+    shown: usize,
     ticks: u32,
 }
 
 impl<'a> Hall<'a> {
-    pub fn new(rt: &'a HostRuntime, size: usize, hidden: usize) -> Hall<'a> {
+    pub fn new(
+        rt: &'a HostRuntime,
+        intake: Intake,
+        speaker: Speaker<Table, Outlet>,
+        shown: usize,
+    ) -> Hall<'a> {
         Hall {
             rt,
-            size,
-            hidden,
+            intake,
+            speaker,
+            shown,
             ticks: 0,
         }
     }
 
     /// Plays all frames, to the end or to one that cannot be read.
-    pub fn play(
-        &mut self,
-        intake: &mut Intake,
-        speaker: &mut Speaker<Table, Outlet>,
-        bytes: &[u8],
-    ) -> anyhow::Result<()> {
-        let rt = self.rt;
+    pub fn play(mut self, bytes: &[u8]) -> anyhow::Result<()> {
         let mut rest = bytes;
         for _ in 0..u64::MAX {
-            let turn = intake.next(rest);
+            let turn = self.intake.next(rest);
+            let after = skip(rest, turn.taken);
             match turn.step {
                 Step::Settings => {}
-                Step::Event { event } => self.hand_in(speaker, event, rest, turn.taken)?,
-                Step::Refused { refusal } => {
-                    let code = refusal.fault().code();
-                    let words = refusal_words(refusal);
-                    println!(rt; "fault {code}: {words}")?;
-                }
+                Step::Event { event } => self.hand_in(event, rest, turn.taken)?,
+                Step::Refused { refusal } => self.show_line("", refusal_line(refusal))?,
                 Step::More => {
                     self.show_ticks()?;
-                    if let Some(defect) = intake.end(skip(rest, turn.taken)) {
-                        self.show_defect(defect)?;
+                    if let Some(defect) = self.intake.end(after) {
+                        self.show_line("", defect_line(defect))?;
                     }
-                    return Ok(());
+                    break;
                 }
-                Step::Unreadable { defect } => return self.show_defect(defect),
+                Step::Unreadable { defect } => {
+                    self.show_line("", defect_line(defect))?;
+                    break;
+                }
             }
-            rest = skip(rest, turn.taken);
+            rest = after;
         }
         Ok(())
     }
 
-    /// Hands in an event, and shows it and what goes out.
-    fn hand_in(
-        &mut self,
-        speaker: &mut Speaker<Table, Outlet>,
-        event: Event<'_>,
-        rest: &[u8],
-        size: usize,
-    ) -> anyhow::Result<()> {
-        let rt = self.rt;
-        let before = speaker.output().bytes().len();
-        let refusal = speaker.handle(event);
-        if speaker.output().is_broken() {
-            return Err(anyhow!("there is no memory for what goes out"));
-        }
-        if rest.len() > self.size.saturating_sub(self.hidden) {
+    /// Hands in an event, the first so many of these bytes, and shows it and what goes out.
+    fn hand_in(&mut self, event: Event<'_>, rest: &[u8], size: usize) -> anyhow::Result<()> {
+        let before = self.sent()?.len();
+        let refusal = self.speaker.handle(event);
+        let is_silent = self.sent()?.len() == before;
+        if rest.len() > self.shown {
             return Ok(());
         }
-        let sent = skip(speaker.output().bytes(), before);
-        self.show_event(event, rest, size, sent.is_empty())?;
+        self.show_event(event, rest, size, is_silent)?;
         if let (Some(refusal), Event::PolicyText { text }) = (refusal, event) {
-            let code = refusal.fault().code();
-            let line = refusal.line(text);
-            println!(rt; "fault {code}: {line}")?;
+            let line = FaultLine {
+                fault: refusal.fault(),
+                words: refusal.line(text),
+            };
+            self.show_line("", line)?;
         }
-        self.show_frames("", sent)
+        self.show_frames("", skip(self.sent()?, before))
+    }
+
+    /// All that went out so far.
+    fn sent(&self) -> anyhow::Result<&[u8]> {
+        self.speaker
+            .output()
+            .bytes()
+            .context("there is no memory for what goes out")
     }
 
     /// Shows an event; ticks at which nothing goes out are only counted.
@@ -113,30 +117,26 @@ impl<'a> Hall<'a> {
 
     /// Shows how many ticks went by.
     fn show_ticks(&mut self) -> anyhow::Result<()> {
-        let rt = self.rt;
         let ticks = self.ticks;
         self.ticks = 0;
-        if ticks > 0 {
-            println!(rt; "> ticks {ticks}")?;
+        if ticks == 0 {
+            return Ok(());
         }
-        Ok(())
+        self.show_line("> ticks ", ticks)
     }
 
     fn show_frames(&self, mark: &str, bytes: &[u8]) -> anyhow::Result<()> {
-        let rt = self.rt;
-        let mut words = String::new(rt.alloc());
+        let mut words = String::new(self.rt.alloc());
         show(&mut words, bytes)?;
         for line in words.as_str().lines() {
-            println!(rt; "{mark}{line}")?;
+            self.show_line(mark, line)?;
         }
         Ok(())
     }
 
-    fn show_defect(&self, defect: Defect) -> anyhow::Result<()> {
+    fn show_line<T: fmt::Display + Drop>(&self, mark: &str, line: T) -> anyhow::Result<()> {
         let rt = self.rt;
-        let code = defect.fault().code();
-        let words = defect_words(defect);
-        println!(rt; "fault {code}: {words}")?;
+        println!(rt; "{mark}{line}")?;
         Ok(())
     }
 }

@@ -4,7 +4,7 @@
 //! played where there is no room for one prefix more. Ticks are counted together, up to one at which something goes out.
 #![tactic(auto)]
 
-use anyhow::anyhow;
+use anyhow::{Context, anyhow};
 use frame_script::frames;
 use hall::Hall;
 use intake::turns::{Intake, Step};
@@ -68,13 +68,9 @@ fn play_behind(rt: &HostRuntime, beginning: &str, script: &str) -> anyhow::Resul
     if let Some(name) = script.lines().next() {
         println!(rt; "%{name}")?;
     }
-    match frames(heap, beginning) {
-        Ok(before) => {
-            let whole = format!(in heap; "{beginning}{script}")?;
-            play(rt, whole.as_str(), before.as_slice().len())
-        }
-        Err(_) => Err(anyhow!("the beginning is no script")),
-    }
+    let before = frames(heap, beginning).map_err(|_| anyhow!("the beginning is no script"))?;
+    let whole = format!(in heap; "{beginning}{script}")?;
+    play(rt, whole.as_str(), before.len())
 }
 
 /// Plays a script, and shows what comes from behind so many bytes on.
@@ -82,9 +78,7 @@ fn play(rt: &HostRuntime, script: &str, hidden: usize) -> anyhow::Result<()> {
     match frames(rt.alloc(), script) {
         Ok(bytes) => play_bytes(rt, bytes.as_slice(), hidden),
         Err(refused) => {
-            let line = refused.line;
-            let words = refused.problem.words();
-            println!(rt; "line {line}: {words}")?;
+            println!(rt; "{refused}")?;
             Ok(())
         }
     }
@@ -102,9 +96,9 @@ fn play_bytes(rt: &HostRuntime, bytes: &[u8], hidden: usize) -> anyhow::Result<(
     let policies = Policies::new(heap)?;
     let spare = Policies::new(heap)?;
     let outlet = Outlet::new(heap);
-    let Some(mut speaker) = Speaker::new(settings, table, policies, spare, outlet) else {
-        return Err(anyhow!("there are too many peers"));
-    };
-    let mut hall = Hall::new(rt, bytes.len(), hidden);
-    hall.play(&mut intake, &mut speaker, skip(bytes, turn.taken))
+    let speaker = Speaker::new(settings, table, policies, spare, outlet).context(
+        "there are too many peers",
+    )?;
+    let shown = bytes.len().saturating_sub(hidden);
+    Hall::new(rt, intake, speaker, shown).play(skip(bytes, turn.taken))
 }

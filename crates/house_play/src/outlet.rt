@@ -4,29 +4,22 @@ ghost use Rattle.house_play.specs.Taken.{Anything};
 use outbox::Output;
 use std::alloc::Global;
 
-/// Bytes that went out. Once there is no room it stays broken.
+/// Bytes that went out; none once there was no room for some.
 #[derive(Drop)]
 pub struct Outlet {
-    bytes: Vec<u8>,
-    broken: bool,
+    bytes: Option<Vec<u8>>,
 }
 
 impl Outlet {
     pub fn new(heap: Global) -> Outlet {
         Outlet {
-            bytes: Vec::new(heap),
-            broken: false,
+            bytes: Some(Vec::new(heap)),
         }
     }
 
-    /// All that went out.
-    pub fn bytes(&self) -> &[u8] {
-        self.bytes.as_slice()
-    }
-
-    /// Whether there was no room for something.
-    pub fn is_broken(&self) -> bool {
-        self.broken
+    /// All that went out, if there was room for it.
+    pub fn bytes(&self) -> Option<&[u8]> {
+        self.bytes.as_ref().map(|bytes| bytes.as_slice())
     }
 }
 
@@ -34,8 +27,10 @@ impl Output for Outlet {
     ghost writes = { Anything };
 
     fn write(&mut self, bytes: &[u8]) {
-        if self.bytes.extend_from_slice(bytes).is_err() {
-            self.broken = true;
+        if let Some(out) = &mut self.bytes {
+            if out.extend_from_slice(bytes).is_err() {
+                self.bytes = None;
+            }
         }
     }
 

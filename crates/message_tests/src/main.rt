@@ -1,7 +1,7 @@
 //! Reads messages from a table and prints what each says, or its fault. A row is a name, the state and the peer, and the message in hexadecimal digits; `00*7` stands for 7 such bytes. Then prints the messages that are written.
 #![tactic(auto)]
 
-ghost use Rattle.std.specs.Prelude.{◌<◌};
+ghost use Rattle.std.specs.Prelude.{◌^◌, ◌<◌};
 
 use fault::Fault;
 use message::{Attributes, Content, Message, Peer, State, read};
@@ -30,8 +30,10 @@ fn digit(b: u8) -> u8
 fn push_digits(bytes: &mut Vec<u8>, digits: &str, times: u16) -> Result<(), AllocError> {
     let digits = digits.as_bytes();
     for _ in 0..times {
-        for i in 0..digits.len() / 2 {
-            bytes.push(digit(digits[2 * i]) * 16 + digit(digits[2 * i + 1]))?;
+        for pair in digits.chunks_exact(2) {
+            if let [high, low] = pair {
+                bytes.push(digit(*high) * 16 + digit(*low))?;
+            }
         }
     }
     Ok(())
@@ -46,6 +48,7 @@ fn push_word(bytes: &mut Vec<u8>, word: &str) -> Result<(), AllocError> {
 
 fn show_prefixes(rt: &HostRuntime, sign: &str, part: &[u8]) -> io::Result<()> {
     let mut prefixes = Prefixes::of(part);
+    // A count, since `Prefixes` is no iterator: a message has at most 4096 bytes.
     for _ in 0..4096 {
         let Some(prefix) = prefixes.next() else {
             break;
@@ -73,13 +76,18 @@ fn show_attributes(rt: &HostRuntime, attributes: Attributes) -> io::Result<()> {
     show_numbers(rt, attributes.communities.as_slice())
 }
 
+fn show_fault(rt: &HostRuntime, fault: Fault) -> io::Result<()> {
+    let code = fault.code();
+    print!(rt; " fault {code}")
+}
+
 fn show_content(rt: &HostRuntime, content: Content) -> io::Result<()> {
     match content {
         Content::Announces(attributes) => show_attributes(rt, attributes),
         Content::Withdraws => print!(rt; ": nothing announced"),
         Content::Faulty(fault) => {
-            let code = fault.code();
-            print!(rt; ": fault {code}")
+            print!(rt; ":")?;
+            show_fault(rt, fault)
         }
     }
 }
@@ -105,28 +113,23 @@ fn show_message(rt: &HostRuntime, message: Message, bytes: &[u8]) -> io::Result<
 
 /// Reads one message, as the peer that the letter stands for: o and O await an OPEN, e and E are established.
 fn show(rt: &HostRuntime, who: &str, bytes: &[u8]) -> io::Result<()> {
-    let state = if who == "o" || who == "O" {
-        State::OpenSent
-    } else {
-        State::Established
+    let state = match who {
+        "o" | "O" => State::OpenSent,
+        _ => State::Established,
     };
-    let peer = if who == "o" || who == "e" {
-        Peer {
+    let peer = match who {
+        "o" | "e" => Peer {
             asn: 65001,
             address: 0x0a000001,
-        }
-    } else {
-        Peer {
+        },
+        _ => Peer {
             asn: 4200000001,
             address: 0xc0000201,
-        }
+        },
     };
     match read(state, peer, bytes) {
         Ok(message) => show_message(rt, message, bytes),
-        Err(fault) => {
-            let code = fault.code();
-            print!(rt; " fault {code}")
-        }
+        Err(fault) => show_fault(rt, fault),
     }
 }
 
@@ -147,30 +150,24 @@ fn show_row(rt: &HostRuntime, line: &str) -> io::Result<()> {
     println!(rt; "")
 }
 
-/// Prints what was written into a buffer, and the byte behind it.
-fn show_written(
+/// Prints what is written into a buffer of so many bytes, and the byte behind it; the whole buffer where it is refused.
+fn show_written<const ROOM: usize, F: FnOnce(&mut [u8]) -> Option<usize>>(
     rt: &HostRuntime,
     name: &str,
-    buffer: &[u8],
-    told: Option<usize>,
-) -> io::Result<()> {
+    write: F,
+) -> io::Result<()>
+    requires callable { F.IsAlwaysCallable write }
+    requires fits { ROOM < 2 ^ 63 }
+{
+    let mut buffer = [0xee; ROOM];
+    let told = write(&mut buffer);
     print!(rt; "{name}: ")?;
-    match told {
-        Some(count) => {
-            for (i, byte) in buffer.iter().enumerate() {
-                if i <= count {
-                    let byte = *byte;
-                    print!(rt; "{byte:02x}")?;
-                }
-            }
-        }
-        None => {
-            for byte in buffer {
-                let byte = *byte;
-                print!(rt; "{byte:02x}")?;
-            }
-            print!(rt; " refused")?;
-        }
+    let shown = told.map_or(ROOM, |count| count.saturating_add(1));
+    for byte in buffer.iter().take(shown) {
+        print!(rt; "{byte:02x}")?;
+    }
+    if told.is_none() {
+        print!(rt; " refused")?;
     }
     println!(rt; "")
 }
@@ -194,54 +191,72 @@ fn write_none(buffer: &mut [u8], address: u32, length: u8) -> Option<usize> {
 }
 
 fn show_opens(rt: &HostRuntime) -> io::Result<()> {
-    let mut buffer = [0xee; 50];
-    let told = write_open(&mut buffer, 65010, 0xc0000201);
-    show_written(rt, "write-open", &buffer, told)?;
-    let mut buffer = [0xee; 50];
-    let told = write_open(&mut buffer, 4200000010, 0xc0000201);
-    show_written(rt, "write-open-large", &buffer, told)?;
-    let mut buffer = [0xee; 42];
-    let told = write_open(&mut buffer, 1, 2);
-    show_written(rt, "write-open-no-room", &buffer, told)
+    show_written::<50, _>(
+        rt,
+        "write-open",
+        |buffer| write_open(buffer, 65010, 0xc0000201),
+    )?;
+    show_written::<50, _>(
+        rt,
+        "write-open-large",
+        |buffer| write_open(buffer, 4200000010, 0xc0000201),
+    )?;
+    show_written::<42, _>(rt, "write-open-no-room", |buffer| write_open(buffer, 1, 2))
 }
 
 fn show_short(rt: &HostRuntime) -> io::Result<()> {
-    let mut buffer = [0xee; 30];
-    let told = write_keepalive(&mut buffer);
-    show_written(rt, "write-keepalive", &buffer, told)?;
-    let mut buffer = [0xee; 18];
-    let told = write_keepalive(&mut buffer);
-    show_written(rt, "write-keepalive-no-room", &buffer, told)?;
-    let mut buffer = [0xee; 30];
-    let told = write_notification(&mut buffer, Fault::HoldTimer);
-    show_written(rt, "write-notification", &buffer, told)?;
-    let mut buffer = [0xee; 20];
-    let told = write_notification(&mut buffer, Fault::Header);
-    show_written(rt, "write-notification-no-room", &buffer, told)
+    show_written::<30, _>(rt, "write-keepalive", |buffer| write_keepalive(buffer))?;
+    show_written::<18, _>(
+        rt,
+        "write-keepalive-no-room",
+        |buffer| write_keepalive(buffer),
+    )?;
+    show_written::<30, _>(
+        rt,
+        "write-notification",
+        |buffer| write_notification(buffer, Fault::HoldTimer),
+    )?;
+    show_written::<20, _>(
+        rt,
+        "write-notification-no-room",
+        |buffer| write_notification(buffer, Fault::Header),
+    )
 }
 
 fn show_withdrawals(rt: &HostRuntime) -> io::Result<()> {
-    let mut buffer = [0xee; 30];
-    let told = write_none(&mut buffer, 0x0a000000, 8);
-    show_written(rt, "write-withdrawal", &buffer, told)?;
-    let mut buffer = [0xee; 30];
-    let told = write_none(&mut buffer, 0, 0);
-    show_written(rt, "write-withdrawal-default", &buffer, told)?;
-    let mut buffer = [0xee; 26];
-    let told = write_none(&mut buffer, 0x0a010200, 24);
-    show_written(rt, "write-withdrawal-no-room", &buffer, told)
+    show_written::<30, _>(
+        rt,
+        "write-withdrawal",
+        |buffer| write_none(buffer, 0x0a000000, 8),
+    )?;
+    show_written::<30, _>(
+        rt,
+        "write-withdrawal-default",
+        |buffer| write_none(buffer, 0, 0),
+    )?;
+    show_written::<26, _>(
+        rt,
+        "write-withdrawal-no-room",
+        |buffer| write_none(buffer, 0x0a010200, 24),
+    )
 }
 
 fn show_announcements(rt: &HostRuntime) -> io::Result<()> {
-    let mut buffer = [0xee; 100];
-    let told = write_route(&mut buffer, &[65010, 65001], 7, &[5, 3, 5]);
-    show_written(rt, "write-announcement", &buffer, told)?;
-    let mut buffer = [0xee; 100];
-    let told = write_route(&mut buffer, &[4200000010], 0, &[]);
-    show_written(rt, "write-announcement-plain", &buffer, told)?;
-    let mut buffer = [0xee; 53];
-    let told = write_route(&mut buffer, &[4200000010], 0, &[]);
-    show_written(rt, "write-announcement-no-room", &buffer, told)
+    show_written::<100, _>(
+        rt,
+        "write-announcement",
+        |buffer| write_route(buffer, &[65010, 65001], 7, &[5, 3, 5]),
+    )?;
+    show_written::<100, _>(
+        rt,
+        "write-announcement-plain",
+        |buffer| write_route(buffer, &[4200000010], 0, &[]),
+    )?;
+    show_written::<53, _>(
+        rt,
+        "write-announcement-no-room",
+        |buffer| write_route(buffer, &[4200000010], 0, &[]),
+    )
 }
 
 fn main(rt: HostRuntime) -> io::Result<()> {

@@ -1,2 +1,1 @@
 pub mod Messages
-pub mod Steps

@@ -1,6 +1,6 @@
 -- The bytes of messages as peers send them, right or not. Assumes nothing.
 use Rattle.std.specs.Prelude.{ℕ, ◌+◌, ◌/◌, ◌%◌, min, cond, List, [], ◌∷◌, ◌++◌, length, take, replicate, ◌==◌, bit_or, nat_le, nat_lt}
-use Rattle.script_words.specs.declared.reading.Prefix.{Prefix}
+use Rattle.script_words.specs.declared.addresses.Prefix.{Prefix}
 
 -- a number as 2 bytes, the high byte first
 abbrev pub bytes16 : ℕ → List ℕ
@@ -28,7 +28,7 @@ open_body asn address = (4 ∷ []) ++ (bytes16 (short_asn asn) ++ ((0 ∷ 90 ∷
 
 -- the length, and as many bytes of the address as its bits need
 abbrev pub prefix_bytes : Prefix → List ℕ
-prefix_bytes p = p.length ∷ take ((p.length + 7) / 8) (bytes32 p.address)
+prefix_bytes p = p.length ∷ take ((p.length + 7) / 8) (bytes32 p.address.0)
 
 -- an attribute; one of more than 255 bytes has its length in 2, which flag 16 says
 abbrev pub attribute_bytes : ℕ → ℕ → List ℕ → List ℕ

@@ -4,5 +4,5 @@
 mod basics;
 mod updates;
 
-pub use basics::{join_law, keepalive, message, notification, open};
+pub use basics::{keepalive, message, notification, open};
 pub use updates::Update;

@@ -1,21 +1,12 @@
 //! UPDATEs.
 ghost use Rattle.std.specs.Prelude.{◌≡◌, [], ◌∷◌, ◌++◌, length, Some, OnOk};
+ghost use Rattle.kinds.specs.Numbers.{attribute_flags, attribute_number};
 ghost use Rattle.peer_messages.specs.Messages.{attribute_bytes, bytes32, prefix_bytes, sequence_bytes, size_bytes};
 
-use crate::basics::{join_law, message, size};
-use script_words::Prefix;
+use crate::basics::{message, size};
+use kinds::{AttributeKind, EXTENDED_LENGTH, MessageKind};
+use script_words::{Address, Prefix};
 use std::alloc::{AllocError, Global};
-use wire::first;
-
-/// The kind of message.
-const UPDATE: u8 = 2;
-
-/// Flags of attributes, as bits.
-const OPTIONAL: u8 = 0x80;
-
-const TRANSITIVE: u8 = 0x40;
-
-const EXTENDED_LENGTH: u8 = 0x10;
 
 /// The parts of an UPDATE, in bytes.
 #[derive(Drop)]
@@ -43,15 +34,13 @@ impl Update {
     pub fn withdraw(&mut self, prefix: Prefix) -> Result<(), AllocError>
         ensures { OnOk result (self.new.withdrawn.items ≡ self.old.withdrawn.items ++ prefix_bytes prefix) }
     {
-        put_prefix(&mut self.withdrawn, prefix)?;
-        Ok(())
+        put_prefix(&mut self.withdrawn, prefix)
     }
 
     pub fn announce(&mut self, prefix: Prefix) -> Result<(), AllocError>
         ensures { OnOk result (self.new.announced.items ≡ self.old.announced.items ++ prefix_bytes prefix) }
     {
-        put_prefix(&mut self.announced, prefix)?;
-        Ok(())
+        put_prefix(&mut self.announced, prefix)
     }
 
     /// A path attribute, empty so far.
@@ -76,13 +65,11 @@ impl Update {
     pub fn add_community(&mut self, community: u32) -> Result<(), AllocError>
         ensures { OnOk result (self.new.communities.items ≡ self.old.communities.items ++ bytes32 community) }
     {
-        self.communities
-            .extend_from_slice(&community.to_be_bytes())?;
-        Ok(())
+        self.communities.extend_from_slice(&community.to_be_bytes())
     }
 
     /// The message. Where no next hop is given it has no attributes.
-    pub fn write(&self, heap: Global, next_hop: Option<u32>) -> Result<Vec<u8>, AllocError> {
+    pub fn write(&self, heap: Global, next_hop: Option<Address>) -> Result<Vec<u8>, AllocError> {
         let mut body = Vec::new(heap);
         put_sized(&mut body, self.withdrawn.as_slice())?;
         let mut attributes = Vec::new(heap);
@@ -91,27 +78,27 @@ impl Update {
         }
         put_sized(&mut body, attributes.as_slice())?;
         body.extend_from_slice(self.announced.as_slice())?;
-        message(heap, UPDATE, body.as_slice())
+        message(heap, u8::from(MessageKind::Update), body.as_slice())
     }
 
     fn put_attributes(
         &self,
         out: &mut Vec<u8>,
         heap: Global,
-        next_hop: u32,
+        next_hop: Address,
     ) -> Result<(), AllocError> {
-        put_attribute(out, TRANSITIVE, 1, &[0])?;
+        put_attribute(out, AttributeKind::Origin, &[0])?;
         if let Some(path) = &self.path {
             let mut value = Vec::new(heap);
             put_sequence(&mut value, path.as_slice())?;
-            put_attribute(out, TRANSITIVE, 2, value.as_slice())?;
+            put_attribute(out, AttributeKind::Path, value.as_slice())?;
         }
-        put_attribute(out, TRANSITIVE, 3, &next_hop.to_be_bytes())?;
+        put_attribute(out, AttributeKind::NextHop, &next_hop.0.to_be_bytes())?;
         if let Some(med) = self.med {
-            put_attribute(out, OPTIONAL, 4, &med.to_be_bytes())?;
+            put_attribute(out, AttributeKind::Med, &med.to_be_bytes())?;
         }
         if !self.communities.is_empty() {
-            put_attribute(out, OPTIONAL | TRANSITIVE, 8, self.communities.as_slice())?;
+            put_attribute(out, AttributeKind::Communities, self.communities.as_slice())?;
         }
         Ok(())
     }
@@ -121,48 +108,43 @@ impl Update {
 fn put_sequence(out: &mut Vec<u8>, path: &[u8]) -> Result<(), AllocError>
     ensures { OnOk result (out.new.items ≡ out.old.items ++ sequence_bytes path.now) }
 {
-    let _ = join_law();
     if path.is_empty() {
         return Ok(());
     }
-    let count = (path.len() / 4).min(255) as u8;
+    let count = u8::try_from(path.len() / 4).unwrap_or(255);
     out.extend_from_slice(&[2, count])?;
-    out.extend_from_slice(path)?;
-    Ok(())
+    out.extend_from_slice(path)
 }
 
 fn put_prefix(out: &mut Vec<u8>, prefix: Prefix) -> Result<(), AllocError>
     ensures { OnOk result (out.new.items ≡ out.old.items ++ prefix_bytes prefix) }
 {
-    let _ = join_law();
-    let bytes = prefix.address.to_be_bytes();
+    let bytes = prefix.address.0.to_be_bytes();
     let count = (usize::from(prefix.length) + 7) / 8;
     out.extend_from_slice(&[prefix.length])?;
-    out.extend_from_slice(first(&bytes, count))?;
-    Ok(())
+    out.extend_from_slice(&bytes[..count.min(4)])
 }
 
 /// The length of a part in 2 bytes, and the part.
 fn put_sized(out: &mut Vec<u8>, part: &[u8]) -> Result<(), AllocError>
     ensures { OnOk result (out.new.items ≡ out.old.items ++ (size_bytes (length part.now) ++ part.now)) }
 {
-    let _ = join_law();
     out.extend_from_slice(&size(part.len()).to_be_bytes())?;
-    out.extend_from_slice(part)?;
-    Ok(())
+    out.extend_from_slice(part)
 }
 
-fn put_attribute(out: &mut Vec<u8>, flags: u8, kind: u8, value: &[u8]) -> Result<(), AllocError>
-    ensures { OnOk result (out.new.items ≡ out.old.items ++ attribute_bytes flags kind value.now) }
+fn put_attribute(out: &mut Vec<u8>, kind: AttributeKind, value: &[u8]) -> Result<(), AllocError>
+    ensures { OnOk result (out.new.items ≡ out.old.items ++ attribute_bytes (attribute_flags kind) (attribute_number kind) value.now) }
 {
-    let _ = join_law();
-    let length = value.len();
-    if length < 256 {
-        out.extend_from_slice(&[flags, kind, length as u8])?;
-        out.extend_from_slice(value)?;
-        return Ok(());
+    let flags = kind.flags();
+    match u8::try_from(value.len()) {
+        Ok(length) => {
+            out.extend_from_slice(&[flags, u8::from(kind), length])?;
+            out.extend_from_slice(value)
+        }
+        Err(_) => {
+            out.extend_from_slice(&[flags | EXTENDED_LENGTH, u8::from(kind)])?;
+            put_sized(out, value)
+        }
     }
-    out.extend_from_slice(&[flags | EXTENDED_LENGTH, kind])?;
-    put_sized(out, value)?;
-    Ok(())
 }

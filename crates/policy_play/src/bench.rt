@@ -1,150 +1,117 @@
 //! What the tasks of a row work on.
-use crate::numbers_of_prefixes::show_number;
+use crate::numbers_of_prefixes::{show_number, show_prefix};
 use crate::questions::{show_step, show_verdict};
-use anyhow::anyhow;
-use example_words::{byte, dotted, next, number, numbers, read_action, read_clause, show_route};
+use anyhow::{Context, anyhow};
+use example_words::{
+    byte, dotted, next, number, numbers, read_action, read_clause, read_part, show_route,
+};
 use policy::{Clause, Condition, Policy, PrefixList};
-use prefix::Prefix;
+use prefix::{COUNT, Prefix};
 use route::{Communities, Metrics, Path, Route};
-use std::alloc::Global;
-use std::io;
 use std::str::SplitWhitespace;
+use std::{fmt, io};
 
 #[derive(Drop)]
-pub struct Bench {
+pub struct Bench<'a> {
+    pub rt: &'a HostRuntime,
     pub route: Route,
     pub list: PrefixList,
     pub lists: Vec<PrefixList>,
     pub condition: Condition,
-    pub clauses: Vec<Clause>,
+    clauses: Vec<Clause>,
 }
 
-impl Bench {
-    pub fn new(heap: Global) -> anyhow::Result<Bench> {
-        let Some(route) = given() else {
-            return Err(anyhow!("there is no such route"));
-        };
+impl<'a> Bench<'a> {
+    pub fn new(rt: &'a HostRuntime) -> anyhow::Result<Bench<'a>> {
         Ok(Bench {
-            route,
+            rt,
+            route: given().context("there is no such route")?,
             list: PrefixList::new(),
-            lists: Vec::new(heap),
+            lists: Vec::new(rt.alloc()),
             condition: Condition::new(),
-            clauses: Vec::new(heap),
+            clauses: Vec::new(rt.alloc()),
         })
     }
 
-    /// Does one task. Each kind of tasks says whether it is one of its own.
-    pub fn work(&mut self, rt: &HostRuntime, task: &str) -> anyhow::Result<()> {
+    /// Does one task.
+    pub fn work(&mut self, task: &str) -> anyhow::Result<()> {
+        let rt = self.rt;
         let mut words = task.split_whitespace();
         let Some(word) = words.next() else {
             return Ok(());
         };
-        if self.set(rt, word, &mut words)?
-            || self.change(rt, word, &mut words)?
-            || self.change_lists(rt, word, &mut words)?
-            || self.judge(rt, word, &mut words)?
-            || self.ask(rt, word, &mut words)?
-        {
-            Ok(())
-        } else {
-            Err(anyhow!("there is no such task"))
-        }
-    }
-
-    /// Tasks that set a part of the route, or say that there is no such.
-    fn set(
-        &mut self,
-        rt: &HostRuntime,
-        word: &str,
-        words: &mut SplitWhitespace<'_>,
-    ) -> anyhow::Result<bool> {
+        let words = &mut words;
         match word {
-            "prefix" => {
-                let (address, length) = dotted(next(words)?)?;
-                match Prefix::new(address, length) {
-                    Some(prefix) => self.route.prefix = prefix,
-                    None => print!(rt; " none")?,
-                }
-            }
-            "path" => {
-                let asns = numbers(rt.alloc(), words)?;
-                match Path::new(asns.as_slice()) {
-                    Some(path) => self.route.path = path,
-                    None => print!(rt; " none")?,
-                }
-            }
-            "communities" => {
-                let values = numbers(rt.alloc(), words)?;
-                match Communities::of(values.as_slice()) {
-                    Some(communities) => self.route.communities = communities,
-                    None => print!(rt; " none")?,
-                }
-            }
+            "prefix" => self.set_prefix(words)?,
+            "path" => self.set_path(words)?,
+            "communities" => self.set_communities(words)?,
             "bare" => self.route.communities = Communities::none(),
-            _ => return Ok(false),
-        }
-        Ok(true)
-    }
-
-    /// Tasks that change the route, or print something of it.
-    fn change(
-        &mut self,
-        rt: &HostRuntime,
-        word: &str,
-        words: &mut SplitWhitespace<'_>,
-    ) -> anyhow::Result<bool> {
-        match word {
-            "prepend" => {
-                let asn = number(words)?;
-                let times = byte(words)?;
-                say(rt, self.route.path.prepend(asn, times))?;
-            }
-            "add" => say(rt, self.route.communities.add(number(words)?))?,
+            "prepend" => self.prepend(words)?,
+            "add" => say(rt, self.route.communities.add(number(words)?).is_ok())?,
             "remove" => self.route.communities.remove(number(words)?),
-            "length" => {
-                let length = self.route.path.len();
-                print!(rt; " {length}")?;
-            }
+            "length" => show(rt, self.route.path.len())?,
             "number" => show_number(rt, self.route.prefix)?,
-            "show" => self.show(rt)?,
-            _ => return Ok(false),
+            "show" => self.show_route()?,
+            "list" => self.put(words)?,
+            "sixteens" => self.put_sixteens(byte(words)?)?,
+            "size" => show(rt, self.list.as_slice().len())?,
+            "keep" => self.keep()?,
+            "usual" => self.put_usual()?,
+            "if" | "then" => self.clauses.push(read_clause(word, words)?)?,
+            "act" => show_step(rt, read_action(words)?.act(&mut self.route))?,
+            "evaluate" => self.evaluate()?,
+            "fits" => self.show_fits(read_part(words)?.test)?,
+            "push" => self.push_parts(byte(words)?, read_part(words)?)?,
+            "among" => self.show_among(words)?,
+            "count" => show(rt, COUNT)?,
+            "numbered" => show_prefix(rt, Prefix::from_number(number(words)?))?,
+            _ => return Err(anyhow!("there is no such task")),
         }
-        Ok(true)
+        Ok(())
     }
 
-    /// Tasks on clauses.
-    fn judge(
-        &mut self,
-        rt: &HostRuntime,
-        word: &str,
-        words: &mut SplitWhitespace<'_>,
-    ) -> anyhow::Result<bool> {
-        match word {
-            "if" | "then" => {
-                let clause = read_clause(word, words)?;
-                self.clauses.push(clause)?;
-            }
-            "act" => {
-                let action = read_action(words)?;
-                show_step(rt, action.act(&mut self.route))?;
-            }
-            "evaluate" => {
-                let policy = Policy {
-                    clauses: self.clauses.as_slice(),
-                    lists: self.lists.as_slice(),
-                };
-                show_verdict(rt, policy.evaluate(&mut self.route))?;
-                self.show(rt)?;
-            }
-            _ => return Ok(false),
-        }
-        Ok(true)
+    fn set_prefix(&mut self, words: &mut SplitWhitespace<'_>) -> anyhow::Result<()> {
+        let (address, length) = dotted(next(words)?)?;
+        set(
+            self.rt,
+            &mut self.route.prefix,
+            Prefix::new(address, length),
+        )
     }
 
-    fn show(&self, rt: &HostRuntime) -> io::Result<()> {
+    fn set_path(&mut self, words: &mut SplitWhitespace<'_>) -> anyhow::Result<()> {
+        let asns = numbers(self.rt.alloc(), words)?;
+        set(self.rt, &mut self.route.path, Path::new(asns.as_slice()))
+    }
+
+    fn set_communities(&mut self, words: &mut SplitWhitespace<'_>) -> anyhow::Result<()> {
+        let values = numbers(self.rt.alloc(), words)?;
+        let communities = Communities::of(values.as_slice());
+        set(self.rt, &mut self.route.communities, communities)
+    }
+
+    fn prepend(&mut self, words: &mut SplitWhitespace<'_>) -> anyhow::Result<()> {
+        let asn = number(words)?;
+        let times = byte(words)?;
+        say(self.rt, self.route.path.prepend(asn, times).is_ok())?;
+        Ok(())
+    }
+
+    fn evaluate(&mut self) -> anyhow::Result<()> {
+        let policy = Policy {
+            clauses: self.clauses.as_slice(),
+            lists: self.lists.as_slice(),
+        };
+        show_verdict(self.rt, policy.evaluate(&mut self.route))?;
+        self.show_route()
+    }
+
+    fn show_route(&self) -> anyhow::Result<()> {
+        let rt = self.rt;
         print!(rt; " <")?;
         show_route(rt, &self.route)?;
-        print!(rt; " >")
+        print!(rt; " >")?;
+        Ok(())
     }
 }
 
@@ -161,10 +128,20 @@ fn given() -> Option<Route> {
     })
 }
 
-pub fn say(rt: &HostRuntime, is_so: bool) -> io::Result<()> {
-    if is_so {
-        print!(rt; " yes")
-    } else {
-        print!(rt; " no")
+/// Sets a part of the route, or says that there is no such.
+fn set<T: Drop>(rt: &HostRuntime, part: &mut T, value: Option<T>) -> anyhow::Result<()> {
+    match value {
+        Some(value) => *part = value,
+        None => show(rt, "none")?,
     }
+    Ok(())
+}
+
+pub fn say(rt: &HostRuntime, is_so: bool) -> io::Result<()> {
+    show(rt, if is_so { "yes" } else { "no" })
+}
+
+/// Prints one answer.
+pub fn show<T: fmt::Display + Drop>(rt: &HostRuntime, answer: T) -> io::Result<()> {
+    print!(rt; " {answer}")
 }

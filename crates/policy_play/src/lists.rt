@@ -1,72 +1,48 @@
 //! Tasks on lists of prefixes.
 use crate::bench::{Bench, say};
-use anyhow::anyhow;
-use example_words::{byte, dotted};
+use anyhow::Context;
+use example_words::dotted;
 use policy::PrefixList;
 use prefix::Prefix;
 use std::str::SplitWhitespace;
 
-impl Bench {
-    pub fn change_lists(
-        &mut self,
-        rt: &HostRuntime,
-        word: &str,
-        words: &mut SplitWhitespace<'_>,
-    ) -> anyhow::Result<bool> {
-        match word {
-            "list" => self.put(rt, words)?,
-            "sixteens" => self.put_sixteens(rt, byte(words)?)?,
-            "size" => {
-                let size = self.list.as_slice().len();
-                print!(rt; " {size}")?;
-            }
-            "keep" => self.keep()?,
-            "usual" => self.put_usual(rt)?,
-            _ => return Ok(false),
-        }
-        Ok(true)
-    }
-
-    fn put_usual(&mut self, rt: &HostRuntime) -> anyhow::Result<()> {
-        self.put(rt, &mut "10.0.0.0/8 192.168.0.0/16".split_whitespace())?;
+impl Bench<'_> {
+    pub fn put_usual(&mut self) -> anyhow::Result<()> {
+        self.put(&mut "10.0.0.0/8 192.168.0.0/16".split_whitespace())?;
         self.keep()?;
-        self.put(rt, &mut "192.168.0.0/16 10.1.0.0/16".split_whitespace())?;
+        self.put(&mut "192.168.0.0/16 10.1.0.0/16".split_whitespace())?;
         self.keep()?;
         self.keep()
     }
 
-    /// Puts prefixes into the list, and says `no` to each for which there is no room.
-    fn put(&mut self, rt: &HostRuntime, words: &mut SplitWhitespace<'_>) -> anyhow::Result<()> {
-        for _ in 0..64 {
-            let Some(word) = words.next() else {
-                break;
-            };
+    /// Puts prefixes into the list, up to 64, and says `no` to each for which there is no room.
+    pub fn put(&mut self, words: &mut SplitWhitespace<'_>) -> anyhow::Result<()> {
+        for word in words.take(64) {
             let (address, length) = dotted(word)?;
-            let Some(prefix) = Prefix::new(address, length) else {
-                return Err(anyhow!("there is no such prefix"));
-            };
-            if !self.list.push(prefix) {
-                say(rt, false)?;
-            }
+            self.add(Prefix::new(address, length))?;
         }
         Ok(())
     }
 
     /// Puts 10.0.0.0/16, 10.1.0.0/16 and so on into the list, of so many prefixes.
-    fn put_sixteens(&mut self, rt: &HostRuntime, count: u8) -> anyhow::Result<()> {
+    pub fn put_sixteens(&mut self, count: u8) -> anyhow::Result<()> {
         for i in 0..count {
-            let Some(prefix) = Prefix::new(u32::from_be_bytes([10, i, 0, 0]), 16) else {
-                return Err(anyhow!("there is no such prefix"));
-            };
-            if !self.list.push(prefix) {
-                say(rt, false)?;
-            }
+            self.add(Prefix::new(u32::from_be_bytes([10, i, 0, 0]), 16))?;
+        }
+        Ok(())
+    }
+
+    /// Puts a prefix into the list, and says `no` where there is no room.
+    fn add(&mut self, prefix: Option<Prefix>) -> anyhow::Result<()> {
+        let prefix = prefix.context("there is no such prefix")?;
+        if self.list.push(prefix).is_err() {
+            say(self.rt, false)?;
         }
         Ok(())
     }
 
     /// Puts the list behind the others, and begins the next.
-    fn keep(&mut self) -> anyhow::Result<()> {
+    pub fn keep(&mut self) -> anyhow::Result<()> {
         let list = self.list;
         self.lists.push(list)?;
         self.list = PrefixList::new();

@@ -32,10 +32,10 @@ fn show_row(rt: &HostRuntime, row: &str) -> anyhow::Result<()> {
         println!(rt; "{row}")?;
         return Ok(());
     };
-    let mut bench = Bench::new(rt.alloc())?;
+    let mut bench = Bench::new(rt)?;
     print!(rt; "{name}:")?;
     for task in tasks.split(';') {
-        bench.work(rt, task)?;
+        bench.work(task)?;
     }
     println!(rt; "")?;
     Ok(())

@@ -1,4 +1,6 @@
 //! Printing prefixes and their numbers.
+use crate::bench::show;
+use example_words::Shown;
 use prefix::Prefix;
 use std::io;
 
@@ -10,10 +12,8 @@ pub fn show_number(rt: &HostRuntime, prefix: Prefix) -> io::Result<()> {
 }
 
 pub fn show_prefix(rt: &HostRuntime, prefix: Option<Prefix>) -> io::Result<()> {
-    let Some(prefix) = prefix else {
-        return print!(rt; " none");
-    };
-    let [a, b, c, d] = prefix.address().to_be_bytes();
-    let length = prefix.length();
-    print!(rt; " {a}.{b}.{c}.{d}/{length}")
+    match prefix {
+        Some(prefix) => show(rt, Shown(prefix)),
+        None => show(rt, "none"),
+    }
 }

@@ -1,84 +1,67 @@
 //! Tasks that ask something.
-use crate::bench::Bench;
-use crate::numbers_of_prefixes::show_prefix;
-use example_words::{byte, number, numbers, read_part};
-use policy::{Condition, Part, PrefixList, Step, Test, Verdict};
-use prefix::{COUNT, Prefix};
-use route::{Route, is_among};
+use crate::bench::{Bench, show};
+use example_words::{number, numbers};
+use policy::{Condition, Part, Step, Test, Verdict};
+use route::is_among;
 use std::io;
 use std::str::SplitWhitespace;
 
-impl Bench {
-    pub fn ask(
-        &mut self,
-        rt: &HostRuntime,
-        word: &str,
-        words: &mut SplitWhitespace<'_>,
-    ) -> anyhow::Result<bool> {
-        match word {
-            "fits" => {
-                let part = read_part(words)?;
-                print!(rt; " ")?;
-                show_fits(rt, part.test, self.lists.as_slice(), &self.route)?;
-            }
-            "push" => self.push_parts(rt, byte(words)?, read_part(words)?)?,
-            "among" => {
-                let asn = number(words)?;
-                let row = numbers(rt.alloc(), words)?;
-                print!(rt; " ")?;
-                mark(rt, is_among(row.as_slice(), asn))?;
-            }
-            "count" => print!(rt; " {COUNT}")?,
-            "numbered" => show_prefix(rt, Prefix::from_number(number(words)?))?,
-            _ => return Ok(false),
-        }
-        Ok(true)
-    }
-
+impl Bench<'_> {
     /// Pushes a part so many times, and prints how many were taken and whether the condition holds.
-    fn push_parts(&mut self, rt: &HostRuntime, times: u8, part: Part) -> io::Result<()> {
+    pub fn push_parts(&mut self, times: u8, part: Part) -> io::Result<()> {
+        let rt = self.rt;
         let mut taken = 0u64;
         for _ in 0..times {
-            if self.condition.push(part) {
+            if self.condition.push(part).is_ok() {
                 taken = taken.saturating_add(1);
             }
         }
         print!(rt; " {taken} ")?;
         mark(rt, self.condition.holds(self.lists.as_slice(), &self.route))
     }
-}
 
-/// Marks whether the test fits: alone, as a part and as a condition, and both negated.
-fn show_fits(rt: &HostRuntime, test: Test, lists: &[PrefixList], route: &Route) -> io::Result<()> {
-    mark(rt, test.fits(lists, route))?;
-    for negated in [false, true] {
-        let part = Part { negated, test };
-        mark(rt, part.holds(lists, route))?;
-        let mut condition = Condition::new();
-        condition.push(part);
-        mark(rt, condition.holds(lists, route))?;
+    /// Marks whether the test fits: alone, as a part and as a condition, and both negated.
+    pub fn show_fits(&self, test: Test) -> io::Result<()> {
+        let rt = self.rt;
+        let lists = self.lists.as_slice();
+        print!(rt; " ")?;
+        mark(rt, test.fits(lists, &self.route))?;
+        for negated in [false, true] {
+            let part = Part { negated, test };
+            mark(rt, part.holds(lists, &self.route))?;
+            let mut condition = Condition::new();
+            let _ = condition.push(part);
+            mark(rt, condition.holds(lists, &self.route))?;
+        }
+        Ok(())
     }
-    Ok(())
+
+    /// Marks whether a network is in a row.
+    pub fn show_among(&self, words: &mut SplitWhitespace<'_>) -> anyhow::Result<()> {
+        let rt = self.rt;
+        let asn = number(words)?;
+        let row = numbers(rt.alloc(), words)?;
+        print!(rt; " ")?;
+        mark(rt, is_among(row.as_slice(), asn))?;
+        Ok(())
+    }
 }
 
 fn mark(rt: &HostRuntime, is_so: bool) -> io::Result<()> {
-    if is_so {
-        print!(rt; "+")
-    } else {
-        print!(rt; "-")
-    }
+    let mark = if is_so { '+' } else { '-' };
+    print!(rt; "{mark}")
 }
 
 pub fn show_step(rt: &HostRuntime, step: Step) -> io::Result<()> {
     match step {
         Step::Decided(verdict) => show_verdict(rt, verdict),
-        Step::GoesOn => print!(rt; " goes on"),
+        Step::GoesOn => show(rt, "goes on"),
     }
 }
 
 pub fn show_verdict(rt: &HostRuntime, verdict: Verdict) -> io::Result<()> {
     match verdict {
-        Verdict::Accepted => print!(rt; " accepted"),
-        Verdict::Rejected => print!(rt; " rejected"),
+        Verdict::Accepted => show(rt, "accepted"),
+        Verdict::Rejected => show(rt, "rejected"),
     }
 }

@@ -1,17 +1,10 @@
 //! Values that the tests are made of.
+use example_words::there;
 use policy::{Condition, Part, PrefixList, Test};
 use prefix::Prefix;
 use route::{Communities, Metrics, Path, Route};
 use std::process::Abort;
 use std::test::*;
-
-/// What must be there for the test to go on.
-pub fn there<T>(value: Option<T>) -> Result<T, Fail> {
-    match value {
-        Some(value) => Ok(value),
-        None => Err(Fail::new("nothing is there")),
-    }
-}
 
 /// The prefix a.b.c.d/length.
 pub fn prefix(address: [u8; 4], length: u8) -> Result<Prefix, Fail> {
@@ -35,7 +28,7 @@ pub fn route(prefix: Prefix, path: &[u32], communities: &[u32]) -> Result<Route,
 pub fn list(rt: &impl Abort, prefixes: &[Prefix]) -> Result<PrefixList, Fail> {
     let mut list = PrefixList::new();
     for prefix in prefixes {
-        assert!(rt; list.push(*prefix));
+        assert!(rt; list.push(*prefix).is_ok());
     }
     Ok(list)
 }
@@ -50,10 +43,12 @@ pub fn condition(rt: &impl Abort, parts: &[(bool, Test)]) -> Result<Condition, F
     let mut condition = Condition::new();
     for (negated, test) in parts {
         assert!(rt;
-            condition.push(Part {
-                negated: *negated,
-                test: *test,
-            })
+            condition
+                .push(Part {
+                    negated: *negated,
+                    test: *test,
+                })
+                .is_ok()
         );
     }
     Ok(condition)

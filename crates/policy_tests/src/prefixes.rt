@@ -1,5 +1,6 @@
 //! The numbers of prefixes, which are prefixes, and which hold which.
-use crate::examples::{prefix, there};
+use crate::examples::prefix;
+use example_words::there;
 use prefix::{COUNT, Prefix};
 use std::process::Abort;
 use std::test::*;

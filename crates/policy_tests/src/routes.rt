@@ -1,5 +1,5 @@
 //! Paths and communities at their limits.
-use crate::examples::there;
+use example_words::there;
 use route::{Communities, Path, is_among};
 use std::test::*;
 
@@ -24,13 +24,13 @@ fn path_of_1_to_32(rt: HostRuntime) -> Result<(), Fail> {
 #[test]
 fn prepends_up_to_32(rt: HostRuntime) -> Result<(), Fail> {
     let mut path = there(Path::new(&MANY[8..32]))?;
-    assert!(rt; path.prepend(5, 0));
+    assert!(rt; path.prepend(5, 0).is_ok());
     assert_eq!(rt; path.asns(), &MANY[8..32]);
-    assert!(rt; path.prepend(5, 8));
+    assert!(rt; path.prepend(5, 8).is_ok());
     assert_eq!(rt; path.len(), 32);
     assert_eq!(rt; &path.asns()[0..8], [5; 8].as_slice());
     assert_eq!(rt; &path.asns()[8..], &MANY[8..32]);
-    assert!(rt; path.prepend(6, 0));
+    assert!(rt; path.prepend(6, 0).is_ok());
     assert_eq!(rt; path.len(), 32);
     Ok(())
 }
@@ -38,11 +38,11 @@ fn prepends_up_to_32(rt: HostRuntime) -> Result<(), Fail> {
 #[test]
 fn no_33rd_network(rt: HostRuntime) -> Result<(), Fail> {
     let mut path = there(Path::new(&MANY[0..25]))?;
-    assert!(rt; !path.prepend(5, 8));
+    assert!(rt; path.prepend(5, 8).is_err());
     assert_eq!(rt; path.asns(), &MANY[0..25]);
-    assert!(rt; !path.prepend(5, 255));
+    assert!(rt; path.prepend(5, 255).is_err());
     let mut most = there(Path::new(&MANY[0..32]))?;
-    assert!(rt; !most.prepend(5, 1));
+    assert!(rt; most.prepend(5, 1).is_err());
     assert_eq!(rt; most.asns(), &MANY[0..32]);
     Ok(())
 }
@@ -71,15 +71,15 @@ fn communities_of_at_most_8(rt: HostRuntime) -> Result<(), Fail> {
 #[test]
 fn no_ninth_community(rt: HostRuntime) -> Result<(), Fail> {
     let mut communities = there(Communities::of(&MANY[0..7]))?;
-    assert!(rt; communities.add(8));
-    assert!(rt; !communities.add(9));
-    assert!(rt; !communities.add(0));
-    assert!(rt; communities.add(4));
+    assert!(rt; communities.add(8).is_ok());
+    assert!(rt; communities.add(9).is_err());
+    assert!(rt; communities.add(0).is_err());
+    assert!(rt; communities.add(4).is_ok());
     assert_eq!(rt; communities.as_slice(), &MANY[0..8]);
     communities.remove(4);
     communities.remove(9);
     assert_eq!(rt; communities.as_slice(), [1, 2, 3, 5, 6, 7, 8].as_slice());
-    assert!(rt; communities.add(0));
+    assert!(rt; communities.add(0).is_ok());
     assert_eq!(rt; communities.as_slice(), [0, 1, 2, 3, 5, 6, 7, 8].as_slice());
     Ok(())
 }
@@ -88,7 +88,7 @@ fn no_ninth_community(rt: HostRuntime) -> Result<(), Fail> {
 fn removes_the_only_one(rt: HostRuntime) -> Result<(), Fail> {
     let mut communities = Communities::none();
     communities.remove(0);
-    assert!(rt; communities.add(0));
+    assert!(rt; communities.add(0).is_ok());
     communities.remove(0);
     assert_eq!(rt; communities.as_slice(), [0u32; 0].as_slice());
     Ok(())

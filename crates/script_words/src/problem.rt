@@ -1,7 +1,9 @@
 //! Why a line of a script is refused.
-use std::alloc::AllocError;
+use std::alloc::{AllocError, AllocFailed};
+use std::error::Error;
+use std::fmt;
 
-#[derive(Clone, Copy)]
+#[derive(Clone, Copy, Debug, PartialEq, Eq)]
 pub enum Problem {
     /// A line begins with no word of the language.
     Unknown,
@@ -22,10 +24,10 @@ pub enum Problem {
     Memory,
 }
 
-impl Problem {
-    /// What the line is told.
-    pub fn words(self) -> &'static str {
-        match self {
+/// What the line is told.
+impl fmt::Display for Problem {
+    fn fmt<W: fmt::Write>(&self, f: &mut fmt::Formatter<W>) -> fmt::Result {
+        f.write_str(match self {
             Problem::Unknown => "no line begins with this word",
             Problem::Missing => "a word is missing",
             Problem::Extra => "there is a word too many",
@@ -40,12 +42,20 @@ impl Problem {
             Problem::NoEnd => "the text has no end",
             Problem::NoMessage => "no message comes behind",
             Problem::Memory => "there is no memory",
-        }
+        })
     }
 }
 
+impl Error for Problem {}
+
 impl From<AllocError> for Problem {
     fn from(_error: AllocError) -> Problem {
+        Problem::Memory
+    }
+}
+
+impl<T: Drop> From<AllocFailed<T>> for Problem {
+    fn from(_error: AllocFailed<T>) -> Problem {
         Problem::Memory
     }
 }

@@ -10,12 +10,9 @@ pub struct Words<'a> {
 impl<'a> Words<'a> {
     /// What stands behind `#` is no word.
     pub fn of(line: &'a str) -> Words<'a> {
-        let line = match line.split_once('#') {
-            Some((before, _)) => before,
-            None => line,
-        };
+        let words = line.split_once('#').map_or(line, |(before, _)| before);
         Words {
-            rest: line.split_whitespace(),
+            rest: words.split_whitespace(),
         }
     }
 
@@ -26,10 +23,7 @@ impl<'a> Words<'a> {
 
     /// The next word.
     pub fn word(&mut self) -> Result<&'a str, Problem> {
-        match self.rest.next() {
-            Some(word) => Ok(word),
-            None => Err(Problem::Missing),
-        }
+        self.rest.next().ok_or(Problem::Missing)
     }
 
     /// The next word, a number.
@@ -39,10 +33,7 @@ impl<'a> Words<'a> {
 
     /// The next word, a number below 256.
     pub fn small(&mut self) -> Result<u8, Problem> {
-        match u8::try_from(self.number()?) {
-            Ok(number) => Ok(number),
-            Err(_) => Err(Problem::NoNumber),
-        }
+        u8::try_from(self.number()?).map_err(|_| Problem::NoNumber)
     }
 
     /// All other words.
@@ -54,7 +45,7 @@ impl<'a> Words<'a> {
     /// All other words, as bytes.
     pub fn put_bytes(self, out: &mut Vec<u8>) -> Result<(), Problem> {
         for word in self.rest() {
-            out.extend_from_slice(&[read_byte(word)?])?;
+            out.push(read_byte(word)?)?;
         }
         Ok(())
     }

@@ -3,20 +3,23 @@ ghost use Rattle.std.specs.Prelude.{◌≡◌};
 ghost use Rattle.policy.specs.Meant.{policy_of};
 ghost use Rattle.selection_play.specs.Clauses.{policy_at};
 
-use anyhow::anyhow;
-use example_words::{byte, read_clause};
-use policy::{Action, Clause, Condition, Policy};
+use anyhow::Context;
+use example_words::{always, byte, read_clause};
+use policy::{Action, Clause, Policy};
 use selection::PolicySource;
 use std::str::SplitWhitespace;
 
 /// How many clauses each policy has.
 const CLAUSES: usize = 5;
 
-/// The clauses of the policies of four peers, one peer's behind the other's; the policies of all other peers have no clauses.
+/// How many peers have policies with clauses.
+const PEERS: usize = 4;
+
+/// The clauses of the policies of four peers; the policies of all other peers have no clauses.
 #[derive(Clone, Copy)]
 pub struct Policies {
-    pub imports: [Clause; 20],
-    pub exports: [Clause; 20],
+    pub imports: [[Clause; CLAUSES]; PEERS],
+    pub exports: [[Clause; CLAUSES]; PEERS],
 }
 
 impl PolicySource for Policies {
@@ -36,59 +39,40 @@ impl PolicySource for Policies {
 impl Policies {
     /// Every policy accepts everything.
     pub fn accepting() -> Policies {
-        let accept = Clause {
-            condition: Condition::new(),
-            action: Action::Accept,
-        };
+        let accept = [[always(Action::Accept); CLAUSES]; PEERS];
         Policies {
-            imports: [accept; 20],
-            exports: [accept; 20],
+            imports: accept,
+            exports: accept,
         }
     }
 }
 
 /// The policy of the peer, which refers to no lists.
-fn policy_at(clauses: &[Clause], peer: u8) -> Policy<'_>
+fn policy_at(clauses: &[[Clause; CLAUSES]], peer: u8) -> Policy<'_>
     ensures { policy_of result ≡ policy_at clauses.now peer }
 {
-    let start = CLAUSES * peer as usize;
-    let end = start + CLAUSES;
-    if end > clauses.len() {
-        return Policy {
-            clauses: &[],
-            lists: &[],
-        };
-    }
     Policy {
-        clauses: &clauses[start..end],
+        clauses: match clauses.get(usize::from(peer)) {
+            Some(clauses) => clauses,
+            None => &[],
+        },
         lists: &[],
     }
 }
 
 /// Reads a peer's number and the clauses of its policy; behind them everything is accepted.
-pub fn read_clauses(clauses: &mut [Clause], words: &mut SplitWhitespace<'_>) -> anyhow::Result<()> {
-    let start = CLAUSES * byte(words)? as usize;
-    for i in 0..CLAUSES {
-        if !put_clause(clauses, start + i, words)? {
+pub fn read_clauses(
+    clauses: &mut [[Clause; CLAUSES]],
+    words: &mut SplitWhitespace<'_>,
+) -> anyhow::Result<()> {
+    let peer = usize::from(byte(words)?);
+    for place in 0..CLAUSES {
+        let Some(word) = words.next() else {
             break;
-        }
+        };
+        let clause = read_clause(word, words)?;
+        let policy = clauses.get_mut(peer).context("the peer has no policies")?;
+        policy[place] = clause;
     }
     Ok(())
-}
-
-/// Puts the next clause at that place; false where no words are left.
-fn put_clause(
-    clauses: &mut [Clause],
-    place: usize,
-    words: &mut SplitWhitespace<'_>,
-) -> anyhow::Result<bool> {
-    let Some(word) = words.next() else {
-        return Ok(false);
-    };
-    let clause = read_clause(word, words)?;
-    if place >= clauses.len() {
-        return Err(anyhow!("the peer has no policies"));
-    }
-    clauses[place] = clause;
-    Ok(true)
 }

@@ -1,6 +1,6 @@
 //! Printing what is selected, and what each peer should hold.
-use crate::situations::{Situation, eight};
-use example_words::show_route;
+use crate::situations::Situation;
+use example_words::{eight, show_route};
 use route::Route;
 use selection::{Candidate, View};
 use std::io;

@@ -5,12 +5,12 @@ ghost use Rattle.prefix.specs.Meant.{meant};
 ghost use Rattle.table.specs.Meant.{received_by};
 
 use crate::policies::{Policies, read_clauses};
-use anyhow::anyhow;
-use example_words::{byte, next, number, numbers};
+use anyhow::{Context, ensure};
+use example_words::{byte, eight, next, number, numbers, plain_route, prefix_or_whole};
 use peers::PeerSet;
 use prefix::Prefix;
 use rib::Rib;
-use route::{Communities, Metrics, Path, Route};
+use route::Metrics;
 use std::alloc::{AllocError, Global};
 use std::str::SplitWhitespace;
 use table::Table;
@@ -74,30 +74,12 @@ impl Situation {
             let _ = next(words)?;
         }
         let asns = numbers(heap, words)?;
-        let Some(path) = Path::new(asns.as_slice()) else {
-            return Err(anyhow!("a path has 1 to 32 networks"));
-        };
-        let route = Route {
-            prefix,
-            path,
-            metrics: Metrics { local_pref: 7, med },
-            communities: Communities::none(),
-        };
-        if self.table.put(peer, &route) {
-            Ok(())
-        } else {
-            Err(anyhow!("there is no such peer"))
-        }
-    }
-}
-
-/// 10.0.0.0/8, of which is asked.
-pub fn eight() -> Prefix
-    ensures { meant result ≡ record { address = 167772160; length = 8 } }
-{
-    match Prefix::new(167_772_160, 8) {
-        Some(prefix) => prefix,
-        None => Prefix::whole(),
+        let metrics = Metrics { local_pref: 7, med };
+        let route = plain_route(prefix, asns.as_slice(), metrics).context(
+            "a path has 1 to 32 networks",
+        )?;
+        ensure!(self.table.put(peer, &route), "there is no such peer");
+        Ok(())
     }
 }
 
@@ -105,8 +87,5 @@ pub fn eight() -> Prefix
 fn nine() -> Prefix
     ensures { meant result ≡ record { address = 167772160; length = 9 } }
 {
-    match Prefix::new(167_772_160, 9) {
-        Some(prefix) => prefix,
-        None => Prefix::whole(),
-    }
+    prefix_or_whole(167_772_160, 9)
 }

@@ -1,5 +1,6 @@
 //! What is exported of a selected route that comes from peer 1, with local preference 200 and MED 4,294,967,295.
-use crate::examples::{OWN, always, route, there, when};
+use crate::examples::{OWN, route};
+use example_words::{always, there, when};
 use policy::{Action, Clause, Policy, Test};
 use route::Route;
 use selection::{Candidate, export, offer};

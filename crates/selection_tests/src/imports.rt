@@ -1,5 +1,6 @@
 //! What is imported of a route with local preference 7 and MED 9.
-use crate::examples::{OWN, always, route, there};
+use crate::examples::{OWN, route};
+use example_words::{always, there};
 use policy::{Action, Clause, Policy};
 use route::Route;
 use selection::import;
