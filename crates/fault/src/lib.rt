@@ -36,12 +36,12 @@ pub enum Fault {
     HoldTimer,
 }
 
-impl Fault {
-    /// The fault's number.
-    pub fn code(self) -> u8
-        ensures { result ≡ code self }
-    {
-        match self {
+/// The fault's number.
+impl From<Fault> for u8 {
+    ghost from_gives = { λ fault number. number ≡ code fault };
+
+    fn from(fault: Fault) -> u8 {
+        match fault {
             Fault::Header => 1,
             Fault::Open => 2,
             Fault::NotEstablished => 3,

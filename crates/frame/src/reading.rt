@@ -26,11 +26,9 @@ pub fn read_event<'a>(settings: &Settings, bytes: &'a [u8]) -> Reading<Event<'a>
 }
 
 /// It does not matter how an input is cut into pieces, and a frame is read by its own bytes alone.
-pub fn reading_laws() -> bool
+pub fn reading_laws()
     ensures { Laws }
-{
-    true
-}
+{}
 
 /// A whole frame before settings.
 fn before_settings(frame: Frame<'_>) -> Reading<Settings>

@@ -247,11 +247,11 @@ fn parts_of_frames(rt: HostRuntime) -> Result<(), Fail> {
 
 #[test]
 fn faults(rt: HostRuntime) {
-    assert_eq!(rt; Refusal::NoSettings.fault().code(), 11);
-    assert_eq!(rt; Refusal::SettingsAgain.fault().code(), 11);
-    assert_eq!(rt; Refusal::TooManyPeers.fault().code(), 11);
-    assert_eq!(rt; Refusal::TextTooLong.fault().code(), 10);
-    assert_eq!(rt; Defect::UnknownKind.fault().code(), 11);
+    assert_eq!(rt; u8::from(Refusal::NoSettings.fault()), 11);
+    assert_eq!(rt; u8::from(Refusal::SettingsAgain.fault()), 11);
+    assert_eq!(rt; u8::from(Refusal::TooManyPeers.fault()), 11);
+    assert_eq!(rt; u8::from(Refusal::TextTooLong.fault()), 10);
+    assert_eq!(rt; u8::from(Defect::UnknownKind.fault()), 11);
 }
 
 /// What is next in an input, and how many of the bytes at hand are done with.

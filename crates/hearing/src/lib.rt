@@ -4,9 +4,7 @@
 ghost use Rattle.hearing.specs.Laws.{HearingLaws, PlacedLaws};
 
 /// What is read of the bytes that tell updates is what the updates tell, and the updates of every event can be told so.
-pub fn hearing_laws() -> bool
+pub fn hearing_laws()
     ensures hearing { HearingLaws }
     ensures placed { PlacedLaws }
-{
-    true
-}
+{}

@@ -31,7 +31,7 @@ pub fn report_message(rt: &HostRuntime, peer: u8, phase: Phase, member: Peer, me
     };
     match read(state, member, message) {
         Err(fault) => {
-            let code = fault.code();
+            let code = u8::from(fault);
             let _ = eprintln!(rt; "peer {peer}: session down: fault {code}");
         }
         Ok(Message::Notification(code, subcode)) => {

@@ -12,7 +12,7 @@ pub struct FaultLine<T> {
 
 impl<T: fmt::Display> fmt::Display for FaultLine<T> {
     fn fmt<W: fmt::Write>(&self, f: &mut fmt::Formatter<W>) -> fmt::Result {
-        let code = self.fault.code();
+        let code = u8::from(self.fault);
         write!(f, "fault {code}: {}", self.words)
     }
 }

@@ -77,7 +77,7 @@ fn show_attributes(rt: &HostRuntime, attributes: Attributes) -> io::Result<()> {
 }
 
 fn show_fault(rt: &HostRuntime, fault: Fault) -> io::Result<()> {
-    let code = fault.code();
+    let code = u8::from(fault);
     print!(rt; " fault {code}")
 }
 

@@ -26,7 +26,7 @@ pub fn attributes_size(route: &Route) -> usize
     ensures value { (hop : ℕ) → result ≡ length (attributes_bytes (route_of route.now) hop) }
     ensures bound { result ≤ 190 }
 {
-    let _ = formed_law(route);
+    formed_law(route);
     23 + 4 * route.path.len() + communities_size(route.communities.as_slice())
 }
 
@@ -61,7 +61,7 @@ impl Writer<'_> {
         requires { self.old.end + length (attributes_bytes (route_of route.now) next_hop) ≤ length self.old.buffer.now }
         ensures { Puts (attributes_bytes (route_of route.now) next_hop) self.old self.new }
     {
-        let _ = formed_law(route);
+        formed_law(route);
         let path = route.path.asns();
         let communities = route.communities.as_slice();
         self.put_bytes(&[TRANSITIVE, 1, 1, 0]);

@@ -33,7 +33,7 @@ pub fn write_notification(buffer: &mut [u8], fault: Fault) -> Option<usize>
     }
     let mut message = Writer { buffer, end: 0 };
     message.put_header(Kind::Notification, 21);
-    message.put_bytes(&[6, fault.code()]);
+    message.put_bytes(&[6, u8::from(fault)]);
     Some(message.end)
 }
 

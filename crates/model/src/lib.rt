@@ -4,9 +4,7 @@
 ghost use Rattle.model.specs.Promise.{Main, Order};
 
 /// What the server's events are promised to keep, true of the model after every list of events.
-pub fn promise() -> bool
+pub fn promise()
     ensures main { Main }
     ensures order { Order }
-{
-    true
-}
+{}

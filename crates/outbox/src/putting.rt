@@ -118,9 +118,7 @@ impl<O: Output> Sink for Outbox<O> {
 
 impl<O: Output> Outbox<O> {
     /// What rows of updates and of frames come to.
-    pub fn laws(&self) -> bool
+    pub fn laws(&self)
         ensures { OutboxLaws O.Output.writes }
-    {
-        true
-    }
+    {}
 }

@@ -5,11 +5,8 @@ use Rattle.std.specs.Borrow.{Bor}
 use Rattle.std.specs.List.{position_from}
 use Rattle.std.specs.Str.{bytes_eq}
 
-pub so_many : (xs : List (Bor (List ℕ))) (n : ℕ) → n ≤ length xs → length (map (λ x. x.now) (take n xs)) ≡ n
-so_many xs n h = length-map (take n xs) (λ x. x.now) ∙ length-take-le n xs h
-
-pub one_more : (xs : List (Bor (List ℕ))) (n : ℕ) (x : Bor (List ℕ)) → n < length xs → map (λ y. y.now) (take (n + 1) (set xs n x)) ≡ map (λ y. y.now) (take n xs) ++ (x.now ∷ [])
-one_more xs n x h = ap (map (λ y. y.now)) (take_more_set xs n x h) ∙ map_push (λ y. y.now) (take n xs) x
+pub one_more : (xs ys : List (Bor (List ℕ))) (x : Bor (List ℕ)) → ys ≡ xs ++ (x ∷ []) → map (λ y. y.now) ys ≡ map (λ y. y.now) xs ++ (x.now ∷ [])
+one_more xs ys x e = ap (map (λ y. y.now)) e ∙ map_push (λ y. y.now) xs x
 
 pub meant_place : (name : List ℕ) (i : ℕ) (xs : List (Bor (List ℕ))) → position_from (λ x. bytes_eq name x.now) i xs ≡ position_from (λ x. bytes_eq name x) i (map (λ x. x.now) xs)
 meant_place name i [] = refl

@@ -1,5 +1,6 @@
 -- What the code's answers stand for. Assumes nothing.
 use Rattle.std.specs.Prelude.{◌≡◌, ℕ, List, map, take, Result, MatchResult}
+use Rattle.rows.specs.Rows.{held}
 use Rattle.policy.specs.Meant.{parts_of}
 use Rattle.policy.specs.declared.Clause.{Clause}
 use Rattle.text_tokens.specs.Tokens.{Source}
@@ -19,7 +20,7 @@ abbrev pub spelled_of : Spelled → ℕ × List ℕ
 spelled_of w = (w.at, w.text.now)
 
 abbrev pub names_of : Names → List (List ℕ)
-names_of n = map (λ x. x.now) (take n.count n.words)
+names_of n = map (λ x. x.now) (held n.words)
 
 -- a clause as it is written
 abbrev pub written_of : Clause → Written

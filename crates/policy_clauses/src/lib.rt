@@ -1,8 +1,6 @@
 //! The clauses of policy texts: conditions, actions, and what is awaited where one cannot be read.
 #![tactic(auto)]
 
-ghost use Rattle.std.specs.Prelude.{◌≤◌};
-
 mod actions;
 mod conditions;
 mod refusals;
@@ -10,6 +8,7 @@ mod scopes;
 mod words;
 
 pub use conditions::clause;
+use rows::Row;
 pub use words::{number, word};
 
 /// What is awaited at the place of a refusal.
@@ -74,7 +73,5 @@ pub struct Spelled<'a> {
 /// The names of the lists so far, in the order of the lists.
 #[derive(Clone, Copy)]
 pub struct Names<'a> {
-    words: [&'a [u8]; 64],
-    count: usize,
-    ghost few: { count ≤ 64 },
+    words: Row<&'a [u8], 64>,
 }

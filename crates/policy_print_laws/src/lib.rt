@@ -37,8 +37,6 @@ impl From<AllocError> for Unprinted {
 }
 
 /// Reading what was printed gives the same policies, and what is read can be printed.
-pub fn round_trip() -> bool
+pub fn round_trip()
     ensures { RoundTrip }
-{
-    true
-}
+{}

@@ -31,30 +31,28 @@ impl<T: Copy, const N: usize> Clone for Row<T, N> {
 pub struct Full;
 
 /// From `i` on the row is the item that stands there, and then the row behind it.
-pub fn unrolls<T>(row: &[T], i: usize, item: &T) -> bool
+pub fn unrolls<T>(row: &[T], i: usize, item: &T)
     ensures { i < length row.now → item.now ≡ slice_index_or row.now i item.now → drop i row.now ≡ item.now ∷ drop (i + 1) row.now }
 {
-    row_law(row)
+    row_law(row);
 }
 
 /// From its end on nothing is left of the row.
-pub fn ends<T>(row: &[T]) -> bool
+pub fn ends<T>(row: &[T])
     ensures { drop (length row.now) row.now ≡ [] }
 {
-    row_law(row)
+    row_law(row);
 }
 
 /// The first `count` of the row are so many, and with the item written behind them they are one more.
-pub fn fills<T>(row: &[T], count: usize, item: &T) -> bool
+pub fn fills<T>(row: &[T], count: usize, item: &T)
     ensures size { count ≤ length row.now → length (take count row.now) ≡ count }
     ensures more { count < length row.now → take (count + 1) (slice_set row.now count item.now) ≡ take count row.now ++ (item.now ∷ []) }
 {
-    row_law(row)
+    row_law(row);
 }
 
-fn row_law<T>(row: &[T]) -> bool
+fn row_law<T>(row: &[T])
     ensures rest { RestSteps T }
     ensures fill { FillSteps T }
-{
-    true
-}
+{}

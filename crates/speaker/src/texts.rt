@@ -10,7 +10,6 @@ use crate::Speaker;
 use configuration::TextRefusal;
 use outbox::Output;
 use rib::Rib;
-use text_tokens::Place;
 
 impl<R: Rib, O: Output> Speaker<R, O> {
     /// Puts the policies of a text in force. A text that is refused leaves those in force that were.
@@ -23,11 +22,7 @@ impl<R: Rib, O: Output> Speaker<R, O> {
                 self.server.put_in_force(&mut self.outbox, &mut self.spare);
                 None
             }
-            Err(refusal) => Some(TextRefusal {
-                at: refusal.at,
-                place: Place::of(text, refusal.at),
-                awaited: refusal.awaited,
-            }),
+            Err(refusal) => Some(TextRefusal::of(text, refusal)),
         }
     }
 }

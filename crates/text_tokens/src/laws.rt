@@ -2,8 +2,6 @@
 ghost use Rattle.text_tokens.specs.Spacing.{SpacingLaws};
 
 /// Comments, blank lines and spacing change nothing but the places of tokens.
-pub fn spacing_laws() -> bool
+pub fn spacing_laws()
     ensures { SpacingLaws }
-{
-    true
-}
+{}

@@ -70,7 +70,7 @@ impl Found {
         ensures { found_of self.new ≡ take_reading (failed (code fault)) (found_of self.old) }
     {
         let lowest = match self.fault {
-            Some(found) if found.code() <= fault.code() => found,
+            Some(found) if u8::from(found) <= u8::from(fault) => found,
             _ => fault,
         };
         self.fault = Some(lowest);

@@ -9,6 +9,6 @@ returns-then-buffer-lt21 c = refused 3 21 (6 ∷ code c.args.fault ∷ []) _ ref
 
 pub returns : goal.returns
 returns c =
-    let body = put_same _ _ _ _ (ap (λ k. 6 ∷ k ∷ []) c.code.ensures) c.put_bytes.ensures in
+    let body = put_same _ _ _ _ (ap (λ k. 6 ∷ k ∷ []) c.from.ensures) c.put_bytes.ensures in
     let w = done 3 21 (6 ∷ code c.args.fault ∷ []) _ _ _ refl refl (omega arith) c.put_header.ensures.put body in
     search (rules, same_end)
