@@ -24,7 +24,7 @@ pub fn sendable_law(route: &Route)
     formed_law(route);
     fit_law(route.path.asns());
     fit_law(route.communities.as_slice());
-    let _ = route.metrics.med;
+    let _ = route.metrics.med == 0;
 }
 
 // The numbers of a row have 32 bits: a proof knows it of a parameter, and not of what a call gave.

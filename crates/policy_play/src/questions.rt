@@ -1,7 +1,7 @@
 //! Tasks that ask something.
 use crate::bench::{Bench, show};
 use example_words::{number, numbers};
-use policy::{Condition, Part, Step, Test, Verdict};
+use policy::{Condition, Part, Test, Verdict};
 use route::is_among;
 use std::io;
 use std::str::SplitWhitespace;
@@ -52,10 +52,10 @@ fn mark(rt: &HostRuntime, is_so: bool) -> io::Result<()> {
     print!(rt; "{mark}")
 }
 
-pub fn show_step(rt: &HostRuntime, step: Step) -> io::Result<()> {
+pub fn show_step(rt: &HostRuntime, step: Option<Verdict>) -> io::Result<()> {
     match step {
-        Step::Decided(verdict) => show_verdict(rt, verdict),
-        Step::GoesOn => show(rt, "goes on"),
+        Some(verdict) => show_verdict(rt, verdict),
+        None => show(rt, "goes on"),
     }
 }
 

@@ -2,7 +2,7 @@
 use crate::situations::Situation;
 use example_words::{eight, show_route};
 use route::Route;
-use selection::{Candidate, View};
+use selection::{Candidate, Terms, View};
 use std::io;
 
 /// The route server's own network.
@@ -14,9 +14,11 @@ pub fn show(rt: &HostRuntime, situation: &Situation) -> io::Result<()> {
     let view = View {
         own_asn: OWN,
         peers,
-        silent: situation.silent,
-        policies: &situation.policies,
         rib: &situation.table,
+        terms: Terms {
+            policies: &situation.policies,
+            silent: situation.silent,
+        },
     };
     show_candidate(rt, view.select(eight()))?;
     print!(rt; "; offered:")?;
