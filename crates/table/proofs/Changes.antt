@@ -2,7 +2,7 @@
 use Rattle.std.proofs.Common.{◌≡◌, ℕ, ◌+◌, ◌*◌, ◌/◌, ◌%◌, ◌<◌, ◌≤◌, true, cond, eqb, ltb, List, [], ◌∷◌, length, length-set, get_or, set, not, Some, None, Option, sym, refl, ap, ◌∙◌, subst, ⊎_elim, arith}
 use Rattle.prefix.specs.Meant.{meant}
 use Rattle.prefix.specs.Prefix.{count, number}
-use Rattle.rib.specs.Received.{Received, Same, is_route, most_peers, stored, updated}
+use Rattle.rib.specs.Received.{Announced, Received, Same, Silent, Unannounced, cleared, is_route, most_peers, stored, updated}
 use Rattle.route.specs.Meant.{route_of}
 use Rattle.route.specs.Route.{Route}
 use Rattle.std.proofs.lemmas.Bool.{cases_eq, cases_lt}
@@ -13,7 +13,7 @@ use Rattle.std.specs.List.{insert, remove}
 use Rattle.table.proofs.Counting.{inside, outside, same_stored, stored_is}
 use Rattle.table.proofs.Lookups.{added, hit, kept, missing, overwritten, taken}
 use Rattle.table.proofs.Orders.{rises_inserted, rises_removed, rises_set}
-use Rattle.table.specs.Steps.{ClearLaw, Missing, Standing, WalkLaws}
+use Rattle.table.specs.Steps.{ClearLaw, Missing, Standing}
 use Rattle.table.specs.Table.{Absent, FirstBetween, Found, NoneBetween, Rises, key_of, others, received_of, route_at}
 use Rattle.table.specs.declared.entry.Entry.{Entry}
 
@@ -98,20 +98,26 @@ lacking es peer prefix i rises byte at =
       added_many = λ e same. counted es (insert es i e) peer prefix (Some (route_of e.route)) (added_rises e same) (added_same e same) ∙ length-insert es i e at.within;
     }
 
-pub walks : WalkLaws
-walks = record {
-  silent = λ es prefix a b key none at. record { none = λ i l h. none_between es i prefix (key_of a prefix) key none (λ small. omega arith) (λ small. omega arith) };
-  announced = λ es prefix peer a b e rises first at byte. ap is_route (read es peer prefix first.place e rises byte first.within first.is at);
-  unannounced = λ es a b none. record { none = λ i p l h. none_between es i p (a * 256) (b * 256) none (λ small. omega arith) (λ small. omega arith) };
-  first = λ es a b e first.
-      let p = e.of_prefix in
-      let low = first.low in
-      (omega arith, record { none = λ j p l h. none_between es j p (a * 256) e.key first.lower (λ small. omega arith) (λ small. omega arith) });
-  somebody = λ es a b e rises first.
-      let p = e.of_prefix in
-      let small = e.of_peer in
-      record { peer = e.key % 256; has_route = ap is_route (read es (e.key % 256) (number (meant e.route.prefix)) first.place e rises (omega arith) first.within first.is (omega arith)) };
-}
+pub silent : (es : List Entry) (prefix a b from until : ℕ) → NoneBetween es from until → from ≡ key_of a prefix → until ≡ key_of b prefix → Silent (received_of es) prefix a b
+silent es prefix a b from until none low high = record { none = λ i l h. none_between es i prefix from until none (λ small. omega arith) (λ small. omega arith) }
+
+pub announced : (es : List Entry) (prefix peer a b : ℕ) (e : Entry) → Rises es → FirstBetween es a b e → e.key ≡ key_of peer prefix → peer < 256 → is_route (received_of es peer prefix) ≡ true
+announced es prefix peer a b e rises first at byte = ap is_route (read es peer prefix first.place e rises byte first.within first.is at)
+
+pub unannounced : (es : List Entry) (a b : ℕ) → NoneBetween es (a * 256) (b * 256) → Unannounced (received_of es) a b
+unannounced es a b none = record { none = λ i p l h. none_between es i p (a * 256) (b * 256) none (λ small. omega arith) (λ small. omega arith) }
+
+pub lowest : (es : List Entry) (a b : ℕ) (e : Entry) → FirstBetween es (a * 256) b e → (a ≤ number (meant e.route.prefix)) × Unannounced (received_of es) a (number (meant e.route.prefix))
+lowest es a b e first =
+    let p = e.of_prefix in
+    let low = first.low in
+    (omega arith, record { none = λ j p l h. none_between es j p (a * 256) e.key first.lower (λ small. omega arith) (λ small. omega arith) })
+
+pub somebody : (es : List Entry) (a b : ℕ) (e : Entry) → Rises es → FirstBetween es a b e → Announced (received_of es) (number (meant e.route.prefix))
+somebody es a b e rises first =
+    let p = e.of_prefix in
+    let small = e.of_peer in
+    record { peer = e.key % 256; has_route = ap is_route (read es (e.key % 256) (number (meant e.route.prefix)) first.place e rises (omega arith) first.within first.is (omega arith)) }
 
 pub clears : (es : List Entry) (peer : ℕ) → Rises es → ClearLaw es peer
 clears es peer rises = record {

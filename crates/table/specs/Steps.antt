@@ -27,14 +27,6 @@ pub record Missing (es : List Entry) (peer prefix i : ℕ) : Type 0 where
   pub added : (e : Entry) → e.key ≡ key_of peer prefix → Same (received_of (insert es i e)) (updated peer prefix (Some (route_of e.route)) (received_of es))
   pub added_many : (e : Entry) → e.key ≡ key_of peer prefix → stored most_peers count (updated peer prefix (Some (route_of e.route)) (received_of es)) ≡ length es + 1
 
--- where no key stands, nothing was announced; where one stands, it was
-pub record WalkLaws : Type 0 where
-  pub silent : (es : List Entry) (prefix a b key : ℕ) → NoneBetween es (key_of a prefix) key → key ≡ key_of b prefix → Silent (received_of es) prefix a b
-  pub announced : (es : List Entry) (prefix peer a b : ℕ) (e : Entry) → Rises es → FirstBetween es a b e → e.key ≡ key_of peer prefix → peer < 256 → is_route (received_of es peer prefix) ≡ true
-  pub unannounced : (es : List Entry) (a b : ℕ) → NoneBetween es (a * 256) (b * 256) → Unannounced (received_of es) a b
-  pub first : (es : List Entry) (a b : ℕ) (e : Entry) → FirstBetween es (a * 256) b e → (a ≤ number (meant e.route.prefix)) × Unannounced (received_of es) a (number (meant e.route.prefix))
-  pub somebody : (es : List Entry) (a b : ℕ) (e : Entry) → Rises es → FirstBetween es a b e → Announced (received_of es) (number (meant e.route.prefix))
-
 -- a table without a peer's routes
 pub record ClearLaw (es : List Entry) (peer : ℕ) : Type 0 where
   pub rises : Rises (others peer es)

@@ -7,7 +7,6 @@ ghost use Rattle.table.specs.Table.{Rises};
 
 mod entry;
 mod keys;
-mod laws;
 mod methods;
 
 use entry::Entry;

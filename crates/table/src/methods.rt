@@ -5,7 +5,6 @@ ghost use Rattle.table.specs.Meant.{received_by};
 use crate::Table;
 use crate::entry::Entry;
 use crate::keys::{STRIDE, key_of};
-use crate::laws::walk_law;
 use prefix::{COUNT, Prefix};
 use rib::Rib;
 use route::Route;
@@ -36,15 +35,15 @@ impl Rib for Table {
         Some(&self.entries[i].route)
     }
 
+    #[tactic(auto, using(crate::proofs::Changes::silent, crate::proofs::Changes::announced))]
     fn next_peer(&self, prefix: Prefix, from: u8, until: u8) -> Option<u8> {
-        walk_law();
         let start = key_of(0, &prefix);
         let entry = self.first_between(start + u64::from(from), start + u64::from(until))?;
         Some((entry.key - start) as u8)
     }
 
+    #[tactic(auto, using(crate::proofs::Changes::unannounced, crate::proofs::Changes::lowest, crate::proofs::Changes::somebody))]
     fn next_prefix(&self, from: u32) -> Option<Prefix> {
-        walk_law();
         let entry = self.first_between(u64::from(from) * STRIDE, u64::from(COUNT) * STRIDE)?;
         Some(entry.route.prefix)
     }
