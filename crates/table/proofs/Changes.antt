@@ -13,7 +13,7 @@ use Rattle.std.specs.List.{insert, remove}
 use Rattle.table.proofs.Counting.{inside, outside, same_stored, stored_is}
 use Rattle.table.proofs.Lookups.{added, hit, kept, missing, overwritten, taken}
 use Rattle.table.proofs.Orders.{rises_inserted, rises_removed, rises_set}
-use Rattle.table.specs.Steps.{ClearLaw, Missing, Standing}
+use Rattle.table.specs.Steps.{Missing, Standing}
 use Rattle.table.specs.Table.{Absent, FirstBetween, Found, NoneBetween, Rises, key_of, others, received_of, route_at}
 use Rattle.table.specs.declared.entry.Entry.{Entry}
 
@@ -55,7 +55,7 @@ standing es peer prefix i rises byte at =
     turned es (set es i e) peer prefix (Some (route_of e.route)) small
     (λ k. overwritten k es i e at.within (at.at e ∙ sym same) (λ j l. subst (λ n. (get_or es j e).key < n) (sym same) (before j e l)) ∙ ap (λ n. cond (eqb k n) (Some (route_of e.route)) (route_at k es)) same) in
     record {
-      within = at.within;
+      at = at;
       is = λ e is. sym (read es peer prefix i e rises byte at.within is (subst (λ x. x.key ≡ key) (sym is) (at.at e)));
       set_rises = set_rises;
       set = set_same;
@@ -90,7 +90,7 @@ lacking es peer prefix i rises byte at =
     turned es (insert es i e) peer prefix (Some (route_of e.route)) (small_peer e peer prefix same byte)
     (λ k. added k es i e at.within (λ j l. subst (λ n. (get_or es j e).key < n) (sym same) (at.before j e (omega arith) l)) ∙ ap (λ n. cond (eqb k n) (Some (route_of e.route)) (route_at k es)) same) in
     record {
-      within = at.within;
+      at = at;
       none = sym none;
       same = unchanged (received_of es) peer prefix none;
       added_rises = added_rises;
@@ -119,12 +119,12 @@ somebody es a b e rises first =
     let small = e.of_peer in
     record { peer = e.key % 256; has_route = ap is_route (read es (e.key % 256) (number (meant e.route.prefix)) first.place e rises (omega arith) first.within first.is (omega arith)) }
 
-pub clears : (es : List Entry) (peer : ℕ) → Rises es → ClearLaw es peer
-clears es peer rises = record {
-  rises = AllPairs-filter (λ x y. x.key < y.key) (λ e. not (eqb (e.key % 256) peer)) es rises;
-  same = λ j q.
-      ⊎_elim
-      (λ l. let was = inside es j q l in let is = inside (others peer es) j q l in let e = kept (key_of j q) peer es in let byte : key_of j q % 256 ≡ j = omega arith in grind (arith, nat_tests))
-      (λ l. let was = outside es j q l in let is = outside (others peer es) j q l in grind (arith, nat_tests))
-      (cases_lt j most_peers);
-}
+pub rises_cleared : (es : List Entry) (peer : ℕ) → Rises es → Rises (others peer es)
+rises_cleared es peer rises = AllPairs-filter (λ x y. x.key < y.key) (λ e. not (eqb (e.key % 256) peer)) es rises
+
+pub cleared_is : (es : List Entry) (peer : ℕ) → Same (received_of (others peer es)) (cleared peer (received_of es))
+cleared_is es peer j q =
+    ⊎_elim
+    (λ l. let was = inside es j q l in let is = inside (others peer es) j q l in let e = kept (key_of j q) peer es in let byte : key_of j q % 256 ≡ j = omega arith in grind (arith, nat_tests))
+    (λ l. let was = outside es j q l in let is = outside (others peer es) j q l in grind (arith, nat_tests))
+    (cases_lt j most_peers)

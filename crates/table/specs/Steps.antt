@@ -5,12 +5,12 @@ use Rattle.prefix.specs.Prefix.{count, number}
 use Rattle.rib.specs.Received.{Announced, Same, Silent, Unannounced, cleared, is_route, most_peers, stored, updated}
 use Rattle.route.specs.Meant.{route_of}
 use Rattle.std.specs.List.{insert, remove}
-use Rattle.table.specs.Table.{FirstBetween, NoneBetween, Rises, key_of, others, received_of}
+use Rattle.table.specs.Table.{Absent, Found, FirstBetween, NoneBetween, Rises, key_of, others, received_of}
 use Rattle.table.specs.declared.entry.Entry.{Entry}
 
 -- what a peer announced of a prefix stands at i: what it is, and what the row is with another in its place, and without it
 pub record Standing (es : List Entry) (peer prefix i : ℕ) : Type 0 where
-  pub within : i < length es
+  pub at : Found es (key_of peer prefix) i
   pub is : (e : Entry) → e ≡ slice_index_or es i e → Some (route_of e.route) ≡ received_of es peer prefix
   pub set_rises : (e : Entry) → e.key ≡ key_of peer prefix → Rises (slice_set es i e)
   pub set : (e : Entry) → e.key ≡ key_of peer prefix → Same (received_of (slice_set es i e)) (updated peer prefix (Some (route_of e.route)) (received_of es))
@@ -20,14 +20,9 @@ pub record Standing (es : List Entry) (peer prefix i : ℕ) : Type 0 where
 
 -- the peer announced nothing of the prefix, which would stand at i: what the row is with it
 pub record Missing (es : List Entry) (peer prefix i : ℕ) : Type 0 where
-  pub within : i ≤ length es
+  pub at : Absent es (key_of peer prefix) i
   pub none : None ≡ received_of es peer prefix
   pub same : Same (received_of es) (updated peer prefix None (received_of es))
   pub added_rises : (e : Entry) → e.key ≡ key_of peer prefix → Rises (insert es i e)
   pub added : (e : Entry) → e.key ≡ key_of peer prefix → Same (received_of (insert es i e)) (updated peer prefix (Some (route_of e.route)) (received_of es))
   pub added_many : (e : Entry) → e.key ≡ key_of peer prefix → stored most_peers count (updated peer prefix (Some (route_of e.route)) (received_of es)) ≡ length es + 1
-
--- a table without a peer's routes
-pub record ClearLaw (es : List Entry) (peer : ℕ) : Type 0 where
-  pub rises : Rises (others peer es)
-  pub same : Same (received_of (others peer es)) (cleared peer (received_of es))

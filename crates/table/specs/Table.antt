@@ -23,6 +23,12 @@ received_of es peer prefix = cond (nat_lt peer most_peers) (route_at (key_of pee
 abbrev pub Rises : List Entry → Type 0
 Rises es = AllPairs (λ x y. x.key < y.key) es
 
+-- i is the place of the first key that is not below `key`
+pub record Placed (es : List Entry) (key i : ℕ) : Type 0 where
+  pub within : i ≤ length es
+  pub before : AllWithin (λ e. e.key < key) es 0 i
+  pub behind : AllWithin (λ e. key ≤ e.key) es i (length es)
+
 -- the key stands at i
 pub record Found (es : List Entry) (key i : ℕ) : Type 0 where
   pub within : i < length es

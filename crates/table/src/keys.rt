@@ -4,7 +4,7 @@ ghost use Rattle.prefix.specs.Meant.{meant};
 ghost use Rattle.prefix.specs.Prefix.{number};
 ghost use Rattle.rib.specs.Received.{most_peers};
 ghost use Rattle.table.specs.Steps.{Missing, Standing};
-ghost use Rattle.table.specs.Table.{FirstBetween, NoneBetween, key_of};
+ghost use Rattle.table.specs.Table.{FirstBetween, NoneBetween, Placed, key_of};
 
 use crate::Table;
 use crate::entry::Entry;
@@ -44,12 +44,19 @@ impl Table {
         self.entries.binary_search_by_key(&key, |e| e.key)
     }
 
+    /// The place of the first key that is not below `key`.
+    fn place_of(&self, key: u64) -> usize
+        ensures { Placed self.now.entries.items key result }
+    {
+        self.entries.partition_point(|e| e.key < key)
+    }
+
     /// The entry of the lowest key from `from` on and below `until`.
+    #[tactic(auto, using(crate::proofs::Places::none_left, crate::proofs::Places::none_below, crate::proofs::Places::first_below))]
     pub(crate) fn first_between(&self, from: u64, until: u64) -> Option<&Entry>
         ensures { MatchOption result (NoneBetween self.now.entries.items from until) (λ e. FirstBetween self.now.entries.items from until e.now) }
     {
-        let i = self.entries.partition_point(|e| e.key < from);
-        let e = self.entries.get(i)?;
+        let e = self.entries.get(self.place_of(from))?;
         if e.key < until { Some(e) } else { None }
     }
 }
