@@ -56,7 +56,8 @@ impl Table {
     pub(crate) fn first_between(&self, from: u64, until: u64) -> Option<&Entry>
         ensures { MatchOption result (NoneBetween self.now.entries.items from until) (λ e. FirstBetween self.now.entries.items from until e.now) }
     {
-        let e = self.entries.get(self.place_of(from))?;
-        if e.key < until { Some(e) } else { None }
+        self.entries
+            .get(self.place_of(from))
+            .filter(|e| e.key < until)
     }
 }
