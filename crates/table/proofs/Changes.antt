@@ -1,5 +1,5 @@
 -- What a table holds, and what each change makes of it. Assumes nothing.
-use Rattle.std.proofs.Common.{◌≡◌, ℕ, ◌+◌, ◌*◌, ◌/◌, ◌%◌, ◌<◌, ◌≤◌, true, cond, eqb, ltb, List, [], ◌∷◌, length, length-set, get_or, set, not, Some, None, Option, sym, refl, ap, ◌∙◌, subst, ⊎_elim, arith}
+use Rattle.std.proofs.Common.{◌≡◌, ℕ, ◌+◌, ◌*◌, ◌%◌, ◌<◌, ◌≤◌, true, cond, eqb, List, [], ◌∷◌, length, length-set, get_or, set, not, Some, None, Option, sym, ap, ◌∙◌, subst, ⊎_elim, arith}
 use Rattle.prefix.specs.Meant.{meant}
 use Rattle.prefix.specs.Prefix.{count, number}
 use Rattle.rib.specs.Received.{Announced, Received, Same, Silent, Unannounced, cleared, is_route, most_peers, stored, updated}
@@ -13,7 +13,7 @@ use Rattle.std.specs.List.{insert, remove}
 use Rattle.table.proofs.Counting.{inside, outside, same_stored, stored_is}
 use Rattle.table.proofs.Lookups.{added, hit, kept, missing, overwritten, taken}
 use Rattle.table.proofs.Orders.{rises_inserted, rises_removed, rises_set}
-use Rattle.table.specs.Steps.{Missing, Standing}
+use Rattle.table.specs.Steps.{AbsentLaws, FoundLaws}
 use Rattle.table.specs.Table.{Absent, FirstBetween, Found, NoneBetween, Rises, key_of, others, received_of, route_at}
 use Rattle.table.specs.declared.entry.Entry.{Entry}
 
@@ -44,8 +44,8 @@ found_peer : (es : List Entry) (peer prefix i : ℕ) → peer < 256 → Found es
 found_peer [] peer prefix i byte at = absurd (let l = at.within in omega arith)
 found_peer (e ∷ es) peer prefix i byte at = small_peer (get_or (e ∷ es) i e) peer prefix (at.at e) byte
 
-pub standing : (es : List Entry) (peer prefix i : ℕ) → Rises es → peer < 256 → Found es (key_of peer prefix) i → Standing es peer prefix i
-standing es peer prefix i rises byte at =
+pub found_laws : (es : List Entry) (peer prefix i : ℕ) → Rises es → peer < 256 → Found es (key_of peer prefix) i → FoundLaws es peer prefix i
+found_laws es peer prefix i rises byte at =
     let key = key_of peer prefix in
     let small = found_peer es peer prefix i byte at in
     let before : (j : ℕ) (d : Entry) → j < i → (get_or es j d).key < key = λ j d l. subst (λ n. (get_or es j d).key < n) (at.at d) (rises j i d l at.within) in
@@ -79,8 +79,8 @@ unchanged f peer prefix none j q =
     (λ a. grind (arith, nat_tests))
     (cases_eq j peer)
 
-pub lacking : (es : List Entry) (peer prefix i : ℕ) → Rises es → peer < 256 → Absent es (key_of peer prefix) i → Missing es peer prefix i
-lacking es peer prefix i rises byte at =
+pub absent_laws : (es : List Entry) (peer prefix i : ℕ) → Rises es → peer < 256 → Absent es (key_of peer prefix) i → AbsentLaws es peer prefix i
+absent_laws es peer prefix i rises byte at =
     let key = key_of peer prefix in
     let none : received_of es peer prefix ≡ None = none_between es peer prefix key (key + 1)
     (record { none = λ j d l low high. ⊎_elim (λ b. let less = at.before j d (omega arith) b in omega arith) (λ b. let more = at.behind j d b l in omega arith) (cases_lt j i) })

@@ -1,13 +1,13 @@
 -- What route a key has after each change of the row. Assumes nothing.
-use Rattle.std.proofs.Common.{◌≡◌, ℕ, zero, suc, ◌%◌, ◌<◌, ◌≤◌, cond, not, eqb, List, [], ◌∷◌, length, get_or, set, Some, None, refl, ap, ◌∙◌, ⊎_elim, arith}
+use Rattle.std.proofs.Common.{◌≡◌, ℕ, zero, suc, ◌%◌, ◌<◌, ◌≤◌, cond, eqb, List, [], ◌∷◌, length, get_or, set, Some, None, refl, ap, ◌∙◌, ⊎_elim, arith}
 use Rattle.route.specs.Meant.{route_of}
 use Rattle.std.proofs.lemmas.Bool.{cases_eq, cond_both, eq-eqb, ne_eqb}
 use Rattle.std.proofs.lemmas.Bool.Decides.{nat_tests}
-use Rattle.std.specs.List.{insert, remove}
+use Rattle.std.specs.List.{All, insert, remove}
 use Rattle.table.specs.Table.{route_at, others}
 use Rattle.table.specs.declared.entry.Entry.{Entry}
 
-pub missing : (key : ℕ) (es : List Entry) → ((j : ℕ) (d : Entry) → j < length es → (get_or es j d).key ≡ key → ⊥) → route_at key es ≡ None
+pub missing : (key : ℕ) (es : List Entry) → All (λ e. e.key ≡ key → ⊥) es → route_at key es ≡ None
 unfolding route_at
 missing key [] h = refl
 missing key (e ∷ es) h =

@@ -1,13 +1,13 @@
 -- Where the library's searches end in a row that rises. Assumes nothing.
-use Rattle.std.proofs.Common.{◌≡◌, ℕ, ◌+◌, ◌<◌, ◌≤◌, Bool, true, false, ltb, List, length, get_or, Result, Ok, Err, MatchResult, sym, ap, subst, ◌∙◌, ⊎_elim, arith}
+use Rattle.std.proofs.Common.{◌≡◌, ℕ, ◌<◌, ◌≤◌, true, false, ltb, List, length, get_or, Result, Ok, Err, MatchResult, sym, ap, subst, ◌∙◌, ⊎_elim, arith}
 use Rattle.std.proofs.lemmas.List.{get_or_default}
-use Rattle.std.proofs.lemmas.Bool.{cases_eq, cases_lt, lt-ltb, ltb-true, ltb-false}
+use Rattle.std.proofs.lemmas.Bool.{cases_eq, cases_lt, ltb-true, ltb-false}
 use Rattle.std.proofs.lemmas.Bool.Decides.{nat_tests}
 use Rattle.std.proofs.lemmas.Cmp.{ranked}
-use Rattle.std.specs.List.Sorted.{IsBinarySearchResult, IsNonDecreasingBy, IsPartitionPoint, IsPartitionedBy, IsSearchInRange}
+use Rattle.std.specs.List.Sorted.{IsBinarySearchResult, IsNonDecreasingBy, IsPartitionPoint, IsSearchInRange}
 use Rattle.std.specs.Ordering.{nat_cmp, ordering_index}
-use Rattle.table.proofs.Changes.{lacking, standing}
-use Rattle.table.specs.Steps.{Missing, Standing}
+use Rattle.table.proofs.Changes.{absent_laws, found_laws}
+use Rattle.table.specs.Steps.{AbsentLaws, FoundLaws}
 use Rattle.table.specs.Table.{FirstBetween, NoneBetween, Placed, Rises, key_of}
 use Rattle.table.specs.declared.entry.Entry.{Entry}
 
@@ -18,11 +18,11 @@ climbs es rises i j d le within = ⊎_elim (λ (same : i ≡ j). let e = ap (λ 
 ranks : (es : List Entry) (key : ℕ) → Rises es → IsNonDecreasingBy (λ e. ordering_index (nat_cmp e.key key)) es
 ranks es key rises i j d le within = let l = climbs es rises i j d le within in grind (arith, nat_tests)
 
-pub searched : (es : List Entry) (peer prefix : ℕ) (r : Result ℕ ℕ) → Rises es → peer < 256 → IsSearchInRange r (length es) → IsBinarySearchResult (λ e. nat_cmp e.key (key_of peer prefix)) es r → MatchResult r (Standing es peer prefix) (Missing es peer prefix)
-searched es peer prefix (Ok i) rises byte within at = standing es peer prefix i rises byte (record { within = within; at = λ d. ranked (get_or es i d).key (key_of peer prefix) _ (sym (at d)) })
+pub searched : (es : List Entry) (peer prefix : ℕ) (r : Result ℕ ℕ) → Rises es → peer < 256 → IsSearchInRange r (length es) → IsBinarySearchResult (λ e. nat_cmp e.key (key_of peer prefix)) es r → MatchResult r (FoundLaws es peer prefix) (AbsentLaws es peer prefix)
+searched es peer prefix (Ok i) rises byte within at = found_laws es peer prefix i rises byte (record { within = within; at = λ d. ranked (get_or es i d).key (key_of peer prefix) _ (sym (at d)) })
 searched es peer prefix (Err i) rises byte within at =
     let parts = at (ranks es (key_of peer prefix) rises) in
-    lacking es peer prefix i rises byte (record { within = within; before = λ j d low l. ranked (get_or es j d).key (key_of peer prefix) _ (sym (parts.0 j d low l)); behind = λ j d low l. ranked (get_or es j d).key (key_of peer prefix) _ (sym (parts.1 j d low l)) })
+    absent_laws es peer prefix i rises byte (record { within = within; before = λ j d low l. ranked (get_or es j d).key (key_of peer prefix) _ (sym (parts.0 j d low l)); behind = λ j d low l. ranked (get_or es j d).key (key_of peer prefix) _ (sym (parts.1 j d low l)) })
 
 pub placed : (es : List Entry) (key i : ℕ) → i ≤ length es → IsPartitionPoint (λ e. ltb e.key key ≡ true) (λ e. ltb e.key key ≡ false) es i → Placed es key i
 placed es key i within parts = record { within = within; before = λ j d low l. ltb-true (get_or es j d).key key (parts.0 j d low l); behind = λ j d low l. ltb-false (get_or es j d).key key (parts.1 j d low l) }

@@ -1,15 +1,14 @@
 -- What the code of the table leans on. Assumes nothing.
-use Rattle.std.specs.Prelude.{◌≡◌, ℕ, ◌+◌, ◌*◌, ◌<◌, ◌≤◌, true, List, [], length, Some, None, slice_index_or, slice_set}
-use Rattle.prefix.specs.Meant.{meant}
-use Rattle.prefix.specs.Prefix.{count, number}
-use Rattle.rib.specs.Received.{Announced, Same, Silent, Unannounced, cleared, is_route, most_peers, stored, updated}
+use Rattle.std.specs.Prelude.{◌≡◌, ℕ, ◌+◌, List, length, Some, None, slice_index_or, slice_set}
+use Rattle.prefix.specs.Prefix.{count}
+use Rattle.rib.specs.Received.{Same, most_peers, stored, updated}
 use Rattle.route.specs.Meant.{route_of}
 use Rattle.std.specs.List.{insert, remove}
-use Rattle.table.specs.Table.{Absent, Found, FirstBetween, NoneBetween, Rises, key_of, others, received_of}
+use Rattle.table.specs.Table.{Absent, Found, Rises, key_of, received_of}
 use Rattle.table.specs.declared.entry.Entry.{Entry}
 
--- what a peer announced of a prefix stands at i: what it is, and what the row is with another in its place, and without it
-pub record Standing (es : List Entry) (peer prefix i : ℕ) : Type 0 where
+-- where the key of a peer and a prefix stands: what was announced, and what the row means with another route there, and without it
+pub record FoundLaws (es : List Entry) (peer prefix i : ℕ) : Type 0 where
   pub at : Found es (key_of peer prefix) i
   pub is : (e : Entry) → e ≡ slice_index_or es i e → Some (route_of e.route) ≡ received_of es peer prefix
   pub set_rises : (e : Entry) → e.key ≡ key_of peer prefix → Rises (slice_set es i e)
@@ -18,8 +17,8 @@ pub record Standing (es : List Entry) (peer prefix i : ℕ) : Type 0 where
   pub removed_rises : Rises (remove es i)
   pub removed : Same (received_of (remove es i)) (updated peer prefix None (received_of es))
 
--- the peer announced nothing of the prefix, which would stand at i: what the row is with it
-pub record Missing (es : List Entry) (peer prefix i : ℕ) : Type 0 where
+-- where it would stand: nothing was announced, and what the row means with a route there
+pub record AbsentLaws (es : List Entry) (peer prefix i : ℕ) : Type 0 where
   pub at : Absent es (key_of peer prefix) i
   pub none : None ≡ received_of es peer prefix
   pub same : Same (received_of es) (updated peer prefix None (received_of es))

@@ -3,7 +3,7 @@ ghost use Rattle.std.specs.Prelude.{◌≡◌, ◌<◌, MatchOption, MatchResult
 ghost use Rattle.prefix.specs.Meant.{meant};
 ghost use Rattle.prefix.specs.Prefix.{number};
 ghost use Rattle.rib.specs.Received.{most_peers};
-ghost use Rattle.table.specs.Steps.{Missing, Standing};
+ghost use Rattle.table.specs.Steps.{AbsentLaws, FoundLaws};
 ghost use Rattle.table.specs.Table.{FirstBetween, NoneBetween, Placed, key_of};
 
 use crate::Table;
@@ -38,7 +38,7 @@ impl Entry {
 impl Table {
     /// The place of what the peer announced of the prefix, or where it would stand.
     pub(crate) fn find(&self, peer: u8, prefix: &Prefix) -> Result<usize, usize>
-        ensures { MatchResult result (λ i. Standing self.now.entries.items peer (number (meant prefix.now)) i) (λ i. Missing self.now.entries.items peer (number (meant prefix.now)) i) }
+        ensures { MatchResult result (λ i. FoundLaws self.now.entries.items peer (number (meant prefix.now)) i) (λ i. AbsentLaws self.now.entries.items peer (number (meant prefix.now)) i) }
     {
         let key = key_of(peer, prefix);
         self.entries.binary_search_by_key(&key, |e| e.key)

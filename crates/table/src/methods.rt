@@ -38,14 +38,14 @@ impl Rib for Table {
     #[tactic(auto, using(crate::proofs::Changes::silent, crate::proofs::Changes::announced))]
     fn next_peer(&self, prefix: Prefix, from: u8, until: u8) -> Option<u8> {
         let start = key_of(0, &prefix);
-        let entry = self.first_between(start + u64::from(from), start + u64::from(until))?;
-        Some((entry.key - start) as u8)
+        let e = self.first_between(start + u64::from(from), start + u64::from(until))?;
+        Some((e.key - start) as u8)
     }
 
     #[tactic(auto, using(crate::proofs::Changes::unannounced, crate::proofs::Changes::lowest, crate::proofs::Changes::somebody))]
     fn next_prefix(&self, from: u32) -> Option<Prefix> {
-        let entry = self.first_between(u64::from(from) * STRIDE, u64::from(COUNT) * STRIDE)?;
-        Some(entry.route.prefix)
+        let e = self.first_between(u64::from(from) * STRIDE, u64::from(COUNT) * STRIDE)?;
+        Some(e.route.prefix)
     }
 
     #[tactic(auto, using(crate::proofs::Counting::stored_is))]
@@ -79,6 +79,7 @@ impl Rib for Table {
     }
 
     fn clear(&mut self, peer: u8) {
+        // The clause says what stays, so that a wrong test is refused here.
         self.entries.retain(
             |e|
                 ensures { result ≡ not (e.now.key % 256 == peer) }
