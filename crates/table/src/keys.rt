@@ -38,7 +38,7 @@ impl Entry {
 impl Table {
     /// The place of what the peer announced of the prefix, or where it would stand.
     pub(crate) fn find(&self, peer: u8, prefix: &Prefix) -> Result<usize, usize>
-        ensures { MatchResult result (λ i. FoundLaws self.now.entries.items peer (number (meant prefix.now)) i) (λ i. AbsentLaws self.now.entries.items peer (number (meant prefix.now)) i) }
+        ensures { MatchResult result (FoundLaws self.now.entries.items peer (number (meant prefix.now))) (AbsentLaws self.now.entries.items peer (number (meant prefix.now))) }
     {
         let key = key_of(peer, prefix);
         self.entries.binary_search_by_key(&key, |e| e.key)
