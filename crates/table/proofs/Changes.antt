@@ -1,163 +1,76 @@
 -- What a table holds, and what each change makes of it. Assumes nothing.
-use Rattle.std.proofs.Common.{◌≡◌, ℕ, ◌+◌, ◌*◌, ◌/◌, ◌%◌, ◌<◌, ◌≤◌, true, cond, ◌&&◌, eqb, ltb, List, [], ◌∷◌, length, get_or, set, Some, None, Option, sym, refl, ap, ◌∙◌, subst, ⊎_elim, arith, length-set}
+use Rattle.std.proofs.Common.{◌≡◌, ℕ, ◌+◌, ◌*◌, ◌%◌, ◌<◌, ◌≤◌, true, cond, eqb, List, [], ◌∷◌, length, length-set, get_or, set, not, Some, None, Option, sym, ap, ◌∙◌, subst, ⊎_elim, arith}
 use Rattle.prefix.specs.Meant.{meant}
 use Rattle.prefix.specs.Prefix.{count, number}
-use Rattle.rib.specs.Received.{Received, Same, is_route, most_peers, stored, updated}
+use Rattle.rib.specs.Received.{Announced, Received, Same, Silent, Unannounced, cleared, is_route, most_peers, stored, updated}
 use Rattle.route.specs.Meant.{route_of}
 use Rattle.route.specs.Route.{Route}
-use Rattle.route.specs.declared.Route.{Route as Stored}
-use Rattle.std.proofs.lemmas.Bool.{cases_eq, cases_lt, and_parts, and_from, ltb-true, eqb-true, lt-ltb, eq-eqb}
+use Rattle.std.proofs.lemmas.Bool.{cases_eq, cases_lt}
 use Rattle.std.proofs.lemmas.Bool.Decides.{nat_tests}
+use Rattle.std.proofs.lemmas.List.Edits.{length-insert}
+use Rattle.std.proofs.lemmas.List.Kept.{AllPairs-filter}
 use Rattle.std.specs.List.{insert, remove}
-use Rattle.table.proofs.Counting.{inside, outside, nowhere, same_stored, stored_is}
+use Rattle.table.proofs.Counting.{inside, outside, same_stored, stored_is}
 use Rattle.table.proofs.Lookups.{added, hit, kept, missing, overwritten, taken}
-use Rattle.table.proofs.Orders.{each_inserted, each_kept, each_removed, each_set, fewer_kept, length_inserted, length_removed, rises_inserted, rises_kept, rises_removed}
-use Rattle.table.specs.Steps.{AddLaw, ClearLaw, EmptyLaw, LookupLaws, OverwriteLaw, RemoveLaws, WalkLaws}
-use Rattle.table.specs.Table.{Absent, Fine, Found, NoneBetween, is_key_of, kept_keys, kept_routes, key_of, received_of, route_at}
+use Rattle.table.proofs.Orders.{rises_inserted, rises_removed, rises_set}
+use Rattle.table.specs.Steps.{AbsentLaws, FoundLaws}
+use Rattle.table.specs.Table.{Absent, FirstBetween, Found, NoneBetween, Rises, key_of, others, received_of, route_at}
+use Rattle.table.specs.declared.entry.Entry.{Entry}
 
-record Key (key : ℕ) (r : Stored) : Type 0 where
-  pub peer : key % 256 < most_peers
-  pub prefix : key / 256 ≡ number (meant r.prefix)
-  pub known : key / 256 < count
-
-key_parts : (key : ℕ) (r : Stored) → is_key_of key r ≡ true → Key key r
-key_parts key r h =
-    let a = and_parts (ltb (key % 256) most_peers) (eqb (key / 256) (number (meant r.prefix)) && ltb (key / 256) count) h in
-    let b = and_parts (eqb (key / 256) (number (meant r.prefix))) (ltb (key / 256) count) a.1 in
-    record { peer = ltb-true (key % 256) most_peers a.0; prefix = eqb-true (key / 256) (number (meant r.prefix)) b.0; known = ltb-true (key / 256) count b.1 }
-
-key_from : (key peer prefix : ℕ) (r : Stored) → key ≡ key_of peer prefix → prefix ≡ number (meant r.prefix) → peer < most_peers → prefix < count → is_key_of key r ≡ true
-key_from key peer prefix r at of small known =
-    and_from (ltb (key % 256) most_peers) (eqb (key / 256) (number (meant r.prefix)) && ltb (key / 256) count) (lt-ltb (key % 256) most_peers (omega arith))
-    (and_from (eqb (key / 256) (number (meant r.prefix))) (ltb (key / 256) count) (eq-eqb (key / 256) (number (meant r.prefix)) (omega arith)) (lt-ltb (key / 256) count (omega arith)))
-
--- there are as many routes as keys
-pub fine_stored : (ks : List ℕ) (rs : List Stored) → Fine ks rs → stored most_peers count (received_of ks rs) ≡ length ks
-fine_stored ks [] fine = stored_is ks [] fine.even fine.rises (λ i l. absurd (let e = fine.even in omega arith))
-fine_stored ks (r ∷ rs) fine = stored_is ks (r ∷ rs) fine.even fine.rises (λ i l. let k = key_parts (get_or ks i 0) (get_or (r ∷ rs) i r) (fine.keyed i r l) in (k.peer, k.known))
-
--- from what stands at a key to what was received
-turned : (ks ks' : List ℕ) (rs rs' : List Stored) (peer prefix : ℕ) (x : Option Route) → peer < most_peers
-    → ((key : ℕ) → route_at key ks' rs' ≡ cond (eqb key (key_of peer prefix)) x (route_at key ks rs)) → Same (received_of ks' rs') (updated peer prefix x (received_of ks rs))
-turned ks ks' rs rs' peer prefix x small h j q =
+-- from the route of each key to what was received
+turned : (es new : List Entry) (peer prefix : ℕ) (x : Option Route) → peer < most_peers
+    → ((key : ℕ) → route_at key new ≡ cond (eqb key (key_of peer prefix)) x (route_at key es)) → Same (received_of new) (updated peer prefix x (received_of es))
+turned es new peer prefix x small h j q =
     ⊎_elim
-    (λ l. let was = inside ks rs j q l in let is = inside ks' rs' j q l in let e = h (key_of j q) in grind (arith, nat_tests))
-    (λ l. let was = outside ks rs j q l in let is = outside ks' rs' j q l in grind (arith, nat_tests))
+    (λ l. let was = inside es j q l in let is = inside new j q l in let e = h (key_of j q) in grind (arith, nat_tests))
+    (λ l. let was = outside es j q l in let is = outside new j q l in grind (arith, nat_tests))
     (cases_lt j most_peers)
 
-found_peer : (ks : List ℕ) (rs : List Stored) (peer prefix i : ℕ) → Fine ks rs → peer < 256 → Found ks (key_of peer prefix) i → peer < most_peers
-found_peer ks [] peer prefix i fine byte at = absurd (let e = fine.even in let l = at.within in omega arith)
-found_peer ks (r ∷ rs) peer prefix i fine byte at = let k = key_parts (get_or ks i 0) (get_or (r ∷ rs) i r) (fine.keyed i r at.within) in let e = at.at in let p = k.peer in omega arith
+-- the peer of an entry is one that there can be
+small_peer : (e : Entry) (peer prefix : ℕ) → e.key ≡ key_of peer prefix → peer < 256 → peer < most_peers
+small_peer e peer prefix at byte = let p = e.of_peer in omega arith
 
-before_found : (ks : List ℕ) (rs : List Stored) (key i : ℕ) → Fine ks rs → Found ks key i → (j : ℕ) → j < i → get_or ks j 0 < get_or ks i 0
-before_found ks rs key i fine at j l = fine.rises j i l at.within
+-- an entry's route was received
+read : (es : List Entry) (peer prefix i : ℕ) (e : Entry) → Rises es → peer < 256 → i < length es → e ≡ get_or es i e → e.key ≡ key_of peer prefix → received_of es peer prefix ≡ Some (route_of e.route)
+read es peer prefix i e rises byte within is at =
+    let here : (get_or es i e).key ≡ key_of peer prefix = sym (ap (λ x. x.key) is) ∙ at in
+    inside es peer prefix (small_peer e peer prefix at byte) ∙ hit (key_of peer prefix) es i e within here (λ j l. subst (λ n. (get_or es j e).key < n) here (rises j i e l within)) ∙ ap (λ x. Some (route_of x.route)) (sym is)
 
-absent_none : (ks : List ℕ) (rs : List Stored) (peer prefix i : ℕ) → Absent ks (key_of peer prefix) i → received_of ks rs peer prefix ≡ None
-absent_none ks rs peer prefix i at =
-    ⊎_elim
-    (λ l. inside ks rs peer prefix l ∙ missing (key_of peer prefix) ks rs (λ j h e. ⊎_elim (λ b. let less = at.before j b in omega arith) (λ b. let more = at.behind j b h in omega arith) (cases_lt j i)))
-    (λ l. outside ks rs peer prefix l)
-    (cases_lt peer most_peers)
+-- what is changed at one key is counted by the entries of the row that it makes
+counted : (es new : List Entry) (peer prefix : ℕ) (x : Option Route) → Rises new → Same (received_of new) (updated peer prefix x (received_of es)) → stored most_peers count (updated peer prefix x (received_of es)) ≡ length new
+counted es new peer prefix x rises same = same_stored most_peers count (received_of new) (updated peer prefix x (received_of es)) (λ j q. sym (same j q)) ∙ stored_is new rises
 
-pub lookups : LookupLaws
-lookups = record {
-  found = λ ks rs peer prefix i r fine byte at read.
-      let small = found_peer ks rs peer prefix i fine byte at in
-      let e = hit (key_of peer prefix) ks rs i r fine.even at.within at.at (λ j l. subst (λ n. get_or ks j 0 < n) at.at (before_found ks rs (key_of peer prefix) i fine at j l)) in
-      ap (λ x. Some (route_of x)) read ∙ sym (inside ks rs peer prefix small ∙ e);
-  absent = λ ks rs peer prefix i at. sym (absent_none ks rs peer prefix i at);
-}
+found_peer : (es : List Entry) (peer prefix i : ℕ) → peer < 256 → Found es (key_of peer prefix) i → peer < most_peers
+found_peer [] peer prefix i byte at = absurd (let l = at.within in omega arith)
+found_peer (e ∷ es) peer prefix i byte at = small_peer (get_or (e ∷ es) i e) peer prefix (at.at e) byte
 
-none_between : (ks : List ℕ) (rs : List Stored) (peer prefix a b : ℕ) → NoneBetween ks a b → (peer < most_peers → a ≤ key_of peer prefix) → (peer < most_peers → key_of peer prefix < b) → received_of ks rs peer prefix ≡ None
-none_between ks rs peer prefix a b none low high =
-    ⊎_elim
-    (λ l. let x = low l in let y = high l in inside ks rs peer prefix l ∙ missing (key_of peer prefix) ks rs (λ j h e. none.none j h (omega arith) (omega arith)))
-    (λ l. outside ks rs peer prefix l)
-    (cases_lt peer most_peers)
-
--- where a key stands, there is a route beside it
-announced_at : (ks : List ℕ) (rs : List Stored) (prefix peer i : ℕ) → Fine ks rs → i < length ks → get_or ks i 0 ≡ key_of peer prefix → peer < 256 → is_route (received_of ks rs peer prefix) ≡ true
-announced_at ks [] prefix peer i fine within at byte = absurd (let e = fine.even in omega arith)
-announced_at ks (r ∷ rs) prefix peer i fine within at byte =
-    let here : Found ks (key_of peer prefix) i = record { within = within; at = at } in
-    let small = found_peer ks (r ∷ rs) peer prefix i fine byte here in
-    let e = hit (key_of peer prefix) ks (r ∷ rs) i r fine.even within at (λ j l. subst (λ n. get_or ks j 0 < n) at (fine.rises j i l within)) in
-    ap is_route (inside ks (r ∷ rs) peer prefix small ∙ e)
-
-pub walks : WalkLaws
-walks = record {
-  silent = λ ks rs prefix a b key none at. record { none = λ i l h. none_between ks rs i prefix (key_of a prefix) key none (λ small. omega arith) (λ small. omega arith) };
-  announced = announced_at;
-  unannounced = λ ks rs a b none. record { none = λ i p l h. none_between ks rs i p (a * 256) (b * 256) none (λ small. omega arith) (λ small. omega arith) };
-  first = λ ks rs a b i r fine at read.
-      let k = key_parts (get_or ks i 0) (get_or rs i r) (fine.keyed i r at.within) in
-      let e : number (meant r.prefix) ≡ get_or ks i 0 / 256 = ap (λ x. number (meant x.prefix)) read ∙ sym k.prefix in
-      let low = at.low in
-      (omega (arith, e, low), record { none = λ j p l h. none_between ks rs j p (a * 256) (get_or ks i 0) at.lower (λ small. omega arith) (λ small. omega (arith, e, h)) });
-  somebody = λ ks rs i r fine within read.
-      let k = key_parts (get_or ks i 0) (get_or rs i r) (fine.keyed i r within) in
-      let e : number (meant r.prefix) ≡ get_or ks i 0 / 256 = ap (λ x. number (meant x.prefix)) read ∙ sym k.prefix in
-      record { peer = get_or ks i 0 % 256; has_route = announced_at ks rs (number (meant r.prefix)) (get_or ks i 0 % 256) i fine within (omega (arith, e)) (omega arith) };
-}
-
-pub empty : EmptyLaw
-empty = record { nothing = λ peer prefix. nowhere [] peer prefix }
-
-pub overwrites : (ks : List ℕ) (rs : List Stored) (peer i : ℕ) (r : Stored) → Fine ks rs → peer < most_peers → number (meant r.prefix) < count → Found ks (key_of peer (number (meant r.prefix))) i → OverwriteLaw ks rs peer i r
-overwrites ks rs peer i r fine small known at =
-    let p = number (meant r.prefix) in
-    let even = fine.even in
-    let fine' : Fine ks (set rs i r) = record {
-      rises = fine.rises;
-      even = length-set rs i r ∙ fine.even;
-      few = fine.few;
-      keyed = each_set (λ k x. is_key_of k x ≡ true) ks rs i r fine.even at.within (key_from (get_or ks i 0) peer p r at.at refl small known) fine.keyed;
-    } in
-    let same : Same (received_of ks (set rs i r)) (updated peer p (Some (route_of r)) (received_of ks rs)) =
-    turned ks ks rs (set rs i r) peer p (Some (route_of r)) small
-    (λ key. overwritten key ks rs i r fine.even at.within (before_found ks rs (key_of peer p) i fine at) ∙ ap (λ k. cond (eqb key k) (Some (route_of r)) (route_at key ks rs)) at.at) in
+pub found_laws : (es : List Entry) (peer prefix i : ℕ) → Rises es → peer < 256 → Found es (key_of peer prefix) i → FoundLaws es peer prefix i
+found_laws es peer prefix i rises byte at =
+    let key = key_of peer prefix in
+    let small = found_peer es peer prefix i byte at in
+    let before : (j : ℕ) (d : Entry) → j < i → (get_or es j d).key < key = λ j d l. subst (λ n. (get_or es j d).key < n) (at.at d) (rises j i d l at.within) in
+    let behind : (j : ℕ) (d : Entry) → i < j → j < length es → key < (get_or es j d).key = λ j d l h. subst (λ n. n < (get_or es j d).key) (at.at d) (rises i j d l h) in
+    let set_rises = λ (e : Entry) (same : e.key ≡ key). rises_set es key i e at same rises in
+    let set_same = λ (e : Entry) (same : e.key ≡ key).
+    turned es (set es i e) peer prefix (Some (route_of e.route)) small
+    (λ k. overwritten k es i e at.within (at.at e ∙ sym same) (λ j l. subst (λ n. (get_or es j e).key < n) (sym same) (before j e l)) ∙ ap (λ n. cond (eqb k n) (Some (route_of e.route)) (route_at k es)) same) in
     record {
-      fine = fine';
-      same = same;
-      many = same_stored most_peers count (received_of ks (set rs i r)) (updated peer p (Some (route_of r)) (received_of ks rs)) (λ j q. sym (same j q)) ∙ fine_stored ks (set rs i r) fine';
+      at = at;
+      is = λ e is. sym (read es peer prefix i e rises byte at.within is (subst (λ x. x.key ≡ key) (sym is) (at.at e)));
+      set_rises = set_rises;
+      set = set_same;
+      set_many = λ e same. counted es (set es i e) peer prefix (Some (route_of e.route)) (set_rises e same) (set_same e same) ∙ length-set es i e;
+      removed_rises = rises_removed es i at.within rises;
+      removed = turned es (remove es i) peer prefix None small (λ k. taken k key es i at.within at.at before behind);
     }
 
--- all of a table in order with one route more, but that there is room for it
-added_stored : (ks : List ℕ) (rs : List Stored) (peer i : ℕ) (r : Stored) → Fine ks rs → peer < most_peers → number (meant r.prefix) < count → Absent ks (key_of peer (number (meant r.prefix))) i
-    → stored most_peers count (received_of (insert ks i (key_of peer (number (meant r.prefix)))) (insert rs i r)) ≡ length ks + 1
-added_stored ks rs peer i r fine small known at =
-    let p = number (meant r.prefix) in
-    let even = fine.even in
-    let within = at.within in
-    let ks' = insert ks i (key_of peer p) in
-    let rs' = insert rs i r in
-    let longer = length_inserted ks i (key_of peer p) within in
-    let longer' = length_inserted rs i r (omega arith) in
-    stored_is ks' rs' (omega arith) (rises_inserted ks i (key_of peer p) within at.before at.behind fine.rises)
-    (λ j l. let k = key_parts (get_or ks' j 0) (get_or rs' j r) (each_inserted (λ k x. is_key_of k x ≡ true) ks rs i (key_of peer p) r even within (key_from (key_of peer p) peer p r refl refl small known) fine.keyed j r l) in (k.peer, k.known))
-    ∙ longer
-
-pub adds : (ks : List ℕ) (rs : List Stored) (peer i : ℕ) (r : Stored) → Fine ks rs → peer < most_peers → number (meant r.prefix) < count → Absent ks (key_of peer (number (meant r.prefix))) i → AddLaw ks rs peer i r
-adds ks rs peer i r fine small known at =
-    let p = number (meant r.prefix) in
-    let even = fine.even in
-    let within = at.within in
-    let ks' = insert ks i (key_of peer p) in
-    let rs' = insert rs i r in
-    let longer = length_inserted ks i (key_of peer p) within in
-    let longer' = length_inserted rs i r (omega arith) in
-    let same : Same (received_of ks' rs') (updated peer p (Some (route_of r)) (received_of ks rs)) =
-    turned ks ks' rs rs' peer p (Some (route_of r)) small (λ key. added key ks rs i (key_of peer p) r even within at.before) in
-    record {
-      fine = λ room. record {
-        rises = rises_inserted ks i (key_of peer p) within at.before at.behind fine.rises;
-        even = omega arith;
-        few = omega arith;
-        keyed = each_inserted (λ k x. is_key_of k x ≡ true) ks rs i (key_of peer p) r even within (key_from (key_of peer p) peer p r refl refl small known) fine.keyed;
-      };
-      same = same;
-      many = same_stored most_peers count (received_of ks' rs') (updated peer p (Some (route_of r)) (received_of ks rs)) (λ j q. sym (same j q)) ∙ added_stored ks rs peer i r fine small known at;
-    }
+-- where no key stands, nothing was received
+none_between : (es : List Entry) (peer prefix a b : ℕ) → NoneBetween es a b → (peer < most_peers → a ≤ key_of peer prefix) → (peer < most_peers → key_of peer prefix < b) → received_of es peer prefix ≡ None
+none_between es peer prefix a b none low high =
+    ⊎_elim
+    (λ l. let x = low l in let y = high l in inside es peer prefix l ∙ missing (key_of peer prefix) es (λ j d h at. none.none j d h (omega arith) (omega arith)))
+    (λ l. outside es peer prefix l)
+    (cases_lt peer most_peers)
 
 unchanged : (f : Received) (peer prefix : ℕ) → f peer prefix ≡ None → Same f (updated peer prefix None f)
 unchanged f peer prefix none j q =
@@ -166,36 +79,52 @@ unchanged f peer prefix none j q =
     (λ a. grind (arith, nat_tests))
     (cases_eq j peer)
 
-pub removes : (ks : List ℕ) (rs : List Stored) (peer prefix : ℕ) → Fine ks rs → peer < 256 → RemoveLaws ks rs peer prefix
-removes ks rs peer prefix fine byte = record {
-  fine = λ i at.
-      let even = fine.even in
-      let few = fine.few in
-      let within = at.within in
-      let shorter = length_removed ks i within in
-      let shorter' = length_removed rs i (omega arith) in
-      record {
-        rises = rises_removed ks i within fine.rises;
-        even = omega arith;
-        few = omega arith;
-        keyed = each_removed (λ k x. is_key_of k x ≡ true) ks rs i even within fine.keyed;
-      };
-  same = λ i at.
-      turned ks (remove ks i) rs (remove rs i) peer prefix None (found_peer ks rs peer prefix i fine byte at)
-      (λ key. taken key ks rs i fine.even at.within (before_found ks rs (key_of peer prefix) i fine at) (λ j l h. fine.rises i j l h) ∙ ap (λ k. cond (eqb key k) None (route_at key ks rs)) at.at);
-  absent = λ i at. unchanged (received_of ks rs) peer prefix (absent_none ks rs peer prefix i at);
-}
-
-pub clears : (ks : List ℕ) (rs : List Stored) (peer : ℕ) → Fine ks rs → ClearLaw ks rs peer
-clears ks rs peer fine =
-    let rest = each_kept (λ k x. is_key_of k x ≡ true) peer ks rs fine.even fine.keyed in
-    let fewer = fewer_kept peer ks in
-    let few = fine.few in
+pub absent_laws : (es : List Entry) (peer prefix i : ℕ) → Rises es → peer < 256 → Absent es (key_of peer prefix) i → AbsentLaws es peer prefix i
+absent_laws es peer prefix i rises byte at =
+    let key = key_of peer prefix in
+    let none : received_of es peer prefix ≡ None = none_between es peer prefix key (key + 1)
+    (record { none = λ j d l low high. ⊎_elim (λ b. let less = at.before j d (omega arith) b in omega arith) (λ b. let more = at.behind j d b l in omega arith) (cases_lt j i) })
+    (λ l. omega arith) (λ l. omega arith) in
+    let added_rises = λ (e : Entry) (same : e.key ≡ key). rises_inserted es key i e at same rises in
+    let added_same = λ (e : Entry) (same : e.key ≡ key).
+    turned es (insert es i e) peer prefix (Some (route_of e.route)) (small_peer e peer prefix same byte)
+    (λ k. added k es i e at.within (λ j l. subst (λ n. (get_or es j e).key < n) (sym same) (at.before j e (omega arith) l)) ∙ ap (λ n. cond (eqb k n) (Some (route_of e.route)) (route_at k es)) same) in
     record {
-      fine = record { rises = rises_kept peer ks fine.rises; even = rest.even; few = omega arith; keyed = rest.each };
-      same = λ j q.
-          ⊎_elim
-          (λ l. let was = inside ks rs j q l in let is = inside (kept_keys peer ks) (kept_routes peer ks rs) j q l in let e = kept (key_of j q) peer ks rs in let byte : key_of j q % 256 ≡ j = omega arith in grind (arith, nat_tests))
-          (λ l. let was = outside ks rs j q l in let is = outside (kept_keys peer ks) (kept_routes peer ks rs) j q l in grind (arith, nat_tests))
-          (cases_lt j most_peers);
+      at = at;
+      none = sym none;
+      same = unchanged (received_of es) peer prefix none;
+      added_rises = added_rises;
+      added = added_same;
+      added_many = λ e same. counted es (insert es i e) peer prefix (Some (route_of e.route)) (added_rises e same) (added_same e same) ∙ length-insert es i e at.within;
     }
+
+pub silent : (es : List Entry) (prefix a b from until : ℕ) → NoneBetween es from until → from ≡ key_of a prefix → until ≡ key_of b prefix → Silent (received_of es) prefix a b
+silent es prefix a b from until none low high = record { none = λ i l h. none_between es i prefix from until none (λ small. omega arith) (λ small. omega arith) }
+
+pub announced : (es : List Entry) (prefix peer a b : ℕ) (e : Entry) → Rises es → FirstBetween es a b e → e.key ≡ key_of peer prefix → peer < 256 → is_route (received_of es peer prefix) ≡ true
+announced es prefix peer a b e rises first at byte = ap is_route (read es peer prefix first.place e rises byte first.within first.is at)
+
+pub unannounced : (es : List Entry) (a b : ℕ) → NoneBetween es (a * 256) (b * 256) → Unannounced (received_of es) a b
+unannounced es a b none = record { none = λ i p l h. none_between es i p (a * 256) (b * 256) none (λ small. omega arith) (λ small. omega arith) }
+
+pub lowest : (es : List Entry) (a b : ℕ) (e : Entry) → FirstBetween es (a * 256) b e → (a ≤ number (meant e.route.prefix)) × Unannounced (received_of es) a (number (meant e.route.prefix))
+lowest es a b e first =
+    let p = e.of_prefix in
+    let low = first.low in
+    (omega arith, record { none = λ j p l h. none_between es j p (a * 256) e.key first.lower (λ small. omega arith) (λ small. omega arith) })
+
+pub somebody : (es : List Entry) (a b : ℕ) (e : Entry) → Rises es → FirstBetween es a b e → Announced (received_of es) (number (meant e.route.prefix))
+somebody es a b e rises first =
+    let p = e.of_prefix in
+    let small = e.of_peer in
+    record { peer = e.key % 256; has_route = ap is_route (read es (e.key % 256) (number (meant e.route.prefix)) first.place e rises (omega arith) first.within first.is (omega arith)) }
+
+pub rises_cleared : (es : List Entry) (peer : ℕ) → Rises es → Rises (others peer es)
+rises_cleared es peer rises = AllPairs-filter (λ x y. x.key < y.key) (λ e. not (eqb (e.key % 256) peer)) es rises
+
+pub cleared_is : (es : List Entry) (peer : ℕ) → Same (received_of (others peer es)) (cleared peer (received_of es))
+cleared_is es peer j q =
+    ⊎_elim
+    (λ l. let was = inside es j q l in let is = inside (others peer es) j q l in let e = kept (key_of j q) peer es in let byte : key_of j q % 256 ≡ j = omega arith in grind (arith, nat_tests))
+    (λ l. let was = outside es j q l in let is = outside (others peer es) j q l in grind (arith, nat_tests))
+    (cases_lt j most_peers)

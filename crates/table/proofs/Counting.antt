@@ -1,12 +1,14 @@
 -- How many routes are kept. Assumes nothing.
-use Rattle.std.proofs.Common.{◌≡◌, ℕ, zero, suc, ◌+◌, ◌/◌, ◌%◌, ◌<◌, ◌≤◌, Bool, true, false, cond, List, [], ◌∷◌, length, get_or, Some, None, sym, refl, ap, ◌∙◌, ⊎_elim, arith}
+use Rattle.std.proofs.Common.{◌≡◌, ℕ, zero, suc, ◌+◌, ◌/◌, ◌%◌, ◌<◌, ◌≤◌, Bool, true, false, cond, List, [], ◌∷◌, length, Some, None, sym, refl, ap, ◌∙◌, ⊎_elim, arith}
+use Rattle.prefix.proofs.Order.{bounded}
+use Rattle.prefix.specs.Meant.{meant}
 use Rattle.prefix.specs.Prefix.{count}
 use Rattle.rib.specs.Received.{Received, count_of, is_route, most_peers, stored}
 use Rattle.route.specs.Meant.{route_of}
-use Rattle.route.specs.declared.Route.{Route as Stored}
 use Rattle.std.proofs.lemmas.Bool.{cases_eq, cases_lt, lt-ltb, le-ltb, eq-eqb, ne_eqb}
 use Rattle.table.proofs.Lookups.{missing}
 use Rattle.table.specs.Table.{Rises, key_of, received_of, route_at}
+use Rattle.table.specs.declared.entry.Entry.{Entry}
 
 count_same : (m : ℕ) (f g : ℕ → Bool) → ((p : ℕ) → p < m → g p ≡ f p) → count_of m g ≡ count_of m f
 unfolding count_of
@@ -76,43 +78,47 @@ stored_none (suc n) m f h =
 pub same_stored : (n m : ℕ) (f g : Received) → ((i p : ℕ) → g i p ≡ f i p) → stored n m g ≡ stored n m f
 same_stored n m f g h = stored_same n m f g (λ i p _. h i p)
 
-pub inside : (ks : List ℕ) (rs : List Stored) (i p : ℕ) → i < most_peers → received_of ks rs i p ≡ route_at (key_of i p) ks rs
+pub inside : (es : List Entry) (i p : ℕ) → i < most_peers → received_of es i p ≡ route_at (key_of i p) es
 unfolding received_of
-inside ks rs i p h = ap (λ b. cond b (route_at (key_of i p) ks rs) None) (lt-ltb i most_peers h)
+inside es i p h = ap (λ b. cond b (route_at (key_of i p) es) None) (lt-ltb i most_peers h)
 
-pub outside : (ks : List ℕ) (rs : List Stored) (i p : ℕ) → most_peers ≤ i → received_of ks rs i p ≡ None
+pub outside : (es : List Entry) (i p : ℕ) → most_peers ≤ i → received_of es i p ≡ None
 unfolding received_of
-outside ks rs i p h = ap (λ b. cond b (route_at (key_of i p) ks rs) None) (le-ltb i most_peers h)
+outside es i p h = ap (λ b. cond b (route_at (key_of i p) es) None) (le-ltb i most_peers h)
 
-pub nowhere : (rs : List Stored) (i p : ℕ) → received_of [] rs i p ≡ None
-nowhere rs i p =
+pub nowhere : (i p : ℕ) → received_of [] i p ≡ None
+nowhere i p =
     ⊎_elim
-    (λ h. inside [] rs i p h ∙ missing (key_of i p) [] rs (λ j l. absurd (omega arith)))
-    (λ h. outside [] rs i p h)
+    (λ h. inside [] i p h ∙ missing (key_of i p) [] (λ j d l. absurd (omega arith)))
+    (λ h. outside [] i p h)
     (cases_lt i most_peers)
 
-first : (k : ℕ) (ks : List ℕ) (r : Stored) (rs : List Stored) (i p : ℕ) → i < most_peers → key_of i p ≡ k → received_of (k ∷ ks) (r ∷ rs) i p ≡ Some (route_of r)
+first : (e : Entry) (es : List Entry) (i p : ℕ) → i < most_peers → key_of i p ≡ e.key → received_of (e ∷ es) i p ≡ Some (route_of e.route)
 unfolding route_at
-first k ks r rs i p h e = inside (k ∷ ks) (r ∷ rs) i p h ∙ ap (λ b. cond b (Some (route_of r)) (route_at (key_of i p) ks rs)) (eq-eqb k (key_of i p) (sym e))
+first e es i p h at = inside (e ∷ es) i p h ∙ ap (λ b. cond b (Some (route_of e.route)) (route_at (key_of i p) es)) (eq-eqb e.key (key_of i p) (sym at))
 
-later : (k : ℕ) (ks : List ℕ) (r : Stored) (rs : List Stored) (i p : ℕ) → (i < most_peers → key_of i p ≡ k → ⊥) → received_of (k ∷ ks) (r ∷ rs) i p ≡ received_of ks rs i p
+later : (e : Entry) (es : List Entry) (i p : ℕ) → (i < most_peers → key_of i p ≡ e.key → ⊥) → received_of (e ∷ es) i p ≡ received_of es i p
 unfolding route_at
-later k ks r rs i p other =
+later e es i p other =
     ⊎_elim
-    (λ h. inside (k ∷ ks) (r ∷ rs) i p h ∙ ap (λ b. cond b (Some (route_of r)) (route_at (key_of i p) ks rs)) (ne_eqb k (key_of i p) (λ e. other h (sym e))) ∙ sym (inside ks rs i p h))
-    (λ h. outside (k ∷ ks) (r ∷ rs) i p h ∙ sym (outside ks rs i p h))
+    (λ h. inside (e ∷ es) i p h ∙ ap (λ b. cond b (Some (route_of e.route)) (route_at (key_of i p) es)) (ne_eqb e.key (key_of i p) (λ at. other h (sym at))) ∙ sym (inside es i p h))
+    (λ h. outside (e ∷ es) i p h ∙ sym (outside es i p h))
     (cases_lt i most_peers)
 
--- there are as many routes as keys
-pub stored_is : (ks : List ℕ) (rs : List Stored) → length rs ≡ length ks → Rises ks → ((i : ℕ) → i < length ks → (get_or ks i 0 % 256 < most_peers) × (get_or ks i 0 / 256 < count)) → stored most_peers count (received_of ks rs) ≡ length ks
-stored_is [] rs even rises keyed = stored_none most_peers count (received_of [] rs) (nowhere rs)
-stored_is (k ∷ ks) [] even rises keyed = absurd (omega arith)
-stored_is (k ∷ ks) (r ∷ rs) even rises keyed =
-    let here = keyed 0 (omega arith) in
-    let whole : key_of (k % 256) (k / 256) ≡ k = omega arith in
-    let off = inside ks rs (k % 256) (k / 256) here.0 ∙ missing (key_of (k % 256) (k / 256)) ks rs (λ j l e. let less = rises 0 (suc j) (omega arith) (omega arith) in omega arith) in
+-- a key is of a prefix that there is
+pub prefixed : (e : Entry) → e.key / 256 < count
+prefixed e = let p = e.of_prefix in let b = bounded (meant e.route.prefix) e.route.prefix.valid in omega arith
+
+-- as many routes are kept as there are entries
+pub stored_is : (es : List Entry) → Rises es → stored most_peers count (received_of es) ≡ length es
+stored_is [] rises = stored_none most_peers count (received_of []) nowhere
+stored_is (e ∷ es) rises =
+    let i = e.key % 256 in
+    let p = e.key / 256 in
+    let whole : key_of i p ≡ e.key = omega arith in
+    let off = inside es i p e.of_peer ∙ missing (key_of i p) es (λ j d l at. let less = rises 0 (suc j) d (omega arith) (omega arith) in omega arith) in
     let more =
-    stored_more most_peers count (received_of ks rs) (received_of (k ∷ ks) (r ∷ rs)) (k % 256) (k / 256) here.0 here.1 (ap is_route off)
-    (ap is_route (first k ks r rs (k % 256) (k / 256) here.0 whole)) (λ j q other. later k ks r rs j q (λ h e. other (omega arith) (omega arith))) in
-    let rest = stored_is ks rs (omega arith) (λ i j l h. rises (suc i) (suc j) (omega arith) (omega arith)) (λ i h. keyed (suc i) (omega arith)) in
+    stored_more most_peers count (received_of es) (received_of (e ∷ es)) i p e.of_peer (prefixed e) (ap is_route off)
+    (ap is_route (first e es i p e.of_peer whole)) (λ j q other. later e es j q (λ h at. other (omega arith) (omega arith))) in
+    let rest = stored_is es (λ i j d l h. rises (suc i) (suc j) d (omega arith) (omega arith)) in
     omega arith

@@ -2,4 +2,4 @@ pub mod Lookups
 pub mod Counting
 pub mod Orders
 pub mod Changes
-pub mod Clearing
+pub mod Places

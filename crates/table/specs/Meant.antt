@@ -6,4 +6,4 @@ use Rattle.table.specs.declared.Table.{Table}
 
 -- what each peer last announced
 abbrev pub received_by : Table → Received
-received_by t = received_of (vec_items t.keys) (vec_items t.routes)
+received_by t = received_of (vec_items t.entries)

@@ -1,25 +1,21 @@
 //! The Adj-RIB-In in memory: the routes of all peers in one row, in the order of their keys.
 #![tactic(auto)]
 
-ghost use Rattle.std.specs.Prelude.{◌≡◌, ◌≤◌, length, vec_capacity};
+ghost use Rattle.std.specs.Prelude.{◌≤◌, length, vec_capacity};
 ghost use Rattle.rib.specs.Received.{capacity};
-ghost use Rattle.table.specs.Table.{Keyed, Rises};
+ghost use Rattle.table.specs.Table.{Rises};
 
+mod entry;
 mod keys;
-mod laws;
 mod methods;
-mod vecs;
 
-use route::Route;
+use entry::Entry;
 
 /// What each peer last announced of each prefix. The memory for all routes is there from the start, so that keeping one can't fail.
 #[derive(Drop)]
 pub struct Table {
-    keys: Vec<u64>,
-    routes: Vec<Route>,
-    ghost rises: { Rises keys.items },
-    ghost even: { length routes.items ≡ length keys.items },
-    ghost few: { length keys.items ≤ capacity },
-    ghost keyed: { Keyed keys.items routes.items },
-    ghost room: { (capacity ≤ vec_capacity keys) × (capacity ≤ vec_capacity routes) },
+    entries: Vec<Entry>,
+    ghost rises: { Rises entries.items },
+    ghost few: { length entries.items ≤ capacity },
+    ghost room: { capacity ≤ vec_capacity entries },
 }

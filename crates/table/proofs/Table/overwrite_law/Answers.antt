@@ -1,7 +1,0 @@
-use Rattle.prefix.specs.Meant.{meant}
-use Rattle.prefix.proofs.Order.{bounded}
-use Rattle.table.proofs.Changes.{overwrites}
-use Rattle.table.proofs.Table.overwrite_law.Goals as goal
-
-pub returns : goal.returns
-returns c = let t = c.args.self.now in overwrites t.keys.items t.routes.items c.args.peer c.args.i c.args.route.now (record { rises = t.rises; even = t.even; few = t.few; keyed = t.keyed }) c.requires.0 (bounded (meant c.args.route.now.prefix) c.args.route.now.prefix.valid) c.requires.1
