@@ -1,6 +1,6 @@
 //! What actions do at the limits of a route.
 use crate::examples::route;
-use policy::{Action, Step, Verdict};
+use policy::{Action, Verdict};
 use prefix::Prefix;
 use std::process::Abort;
 use std::test::*;
@@ -9,7 +9,7 @@ use std::test::*;
 fn prepended(rt: &impl Abort, path: &[u32], times: u8) -> Result<Option<usize>, Fail> {
     let mut route = route(Prefix::whole(), path, &[])?;
     match (Action::Prepend { asn: 5, times }).act(&mut route) {
-        Step::GoesOn => {
+        None => {
             let front = [5; 8];
             let count = times as usize;
             assert!(rt; count <= 8 && count <= route.path.asns().len());
@@ -17,7 +17,7 @@ fn prepended(rt: &impl Abort, path: &[u32], times: u8) -> Result<Option<usize>, 
             assert_eq!(rt; &route.path.asns()[count..], path);
             Ok(Some(route.path.len()))
         }
-        Step::Decided(verdict) => {
+        Some(verdict) => {
             assert!(rt; matches!(verdict, Verdict::Rejected));
             assert_eq!(rt; route.path.asns(), path);
             Ok(None)
@@ -41,8 +41,8 @@ fn prepends(rt: HostRuntime) -> Result<(), Fail> {
 fn added(rt: &impl Abort, communities: &[u32], community: u32) -> Result<Option<usize>, Fail> {
     let mut route = route(Prefix::whole(), &[7], communities)?;
     match Action::AddCommunity(community).act(&mut route) {
-        Step::GoesOn => Ok(Some(route.communities.as_slice().len())),
-        Step::Decided(verdict) => {
+        None => Ok(Some(route.communities.as_slice().len())),
+        Some(verdict) => {
             assert!(rt; matches!(verdict, Verdict::Rejected));
             assert_eq!(rt; route.communities.as_slice(), communities);
             Ok(None)
