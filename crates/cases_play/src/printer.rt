@@ -1,5 +1,4 @@
 //! Printing what peers are told.
-use example_words::Shown;
 use prefix::Prefix;
 use route::Route;
 use std::io;
@@ -56,7 +55,6 @@ impl<'a> Printer<'a> {
     fn show(&self, peer: u8, prefix: Prefix, route: Option<&Route>) -> io::Result<()> {
         let rt = self.rt;
         let case = self.case;
-        let prefix = Shown(prefix);
         let Some(route) = route else {
             return println!(rt; "{case}: peer {peer} is told that there is none of {prefix}");
         };

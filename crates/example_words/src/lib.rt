@@ -8,6 +8,6 @@ mod values;
 mod words;
 
 pub use clauses::{read_action, read_clause, read_part};
-pub use printing::{Shown, show_numbers, show_route};
+pub use printing::{show_numbers, show_route};
 pub use values::{BEST_TO_WORST, always, eight, plain_route, prefix_or_whole, there, when};
 pub use words::{byte, dotted, next, number, numbers};

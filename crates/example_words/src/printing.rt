@@ -1,7 +1,6 @@
 //! Printing routes.
-use prefix::Prefix;
 use route::Route;
-use std::{fmt, io};
+use std::io;
 
 /// Prints the path, in brackets local preference and MED, and the communities.
 pub fn show_route(rt: &HostRuntime, route: &Route) -> io::Result<()> {
@@ -25,16 +24,4 @@ pub fn show_numbers(rt: &HostRuntime, numbers: &[u32]) -> io::Result<()> {
         }
     }
     Ok(())
-}
-
-/// A prefix as it is written, as 10.0.0.0/8.
-#[derive(Clone, Copy)]
-pub struct Shown(pub Prefix);
-
-impl fmt::Display for Shown {
-    fn fmt<W: fmt::Write>(&self, f: &mut fmt::Formatter<W>) -> fmt::Result {
-        let [a, b, c, d] = self.0.address().to_be_bytes();
-        let length = self.0.length();
-        write!(f, "{a}.{b}.{c}.{d}/{length}")
-    }
 }

@@ -53,9 +53,7 @@ fn show_prefixes(rt: &HostRuntime, sign: &str, part: &[u8]) -> io::Result<()> {
         let Some(prefix) = prefixes.next() else {
             break;
         };
-        let [a, b, c, d] = prefix.address().to_be_bytes();
-        let length = prefix.length();
-        print!(rt; " {sign}{a}.{b}.{c}.{d}/{length}")?;
+        print!(rt; " {sign}{prefix}")?;
     }
     Ok(())
 }

@@ -1,6 +1,5 @@
 //! Printing prefixes and their numbers.
 use crate::bench::show;
-use example_words::Shown;
 use prefix::Prefix;
 use std::io;
 
@@ -13,7 +12,7 @@ pub fn show_number(rt: &HostRuntime, prefix: Prefix) -> io::Result<()> {
 
 pub fn show_prefix(rt: &HostRuntime, prefix: Option<Prefix>) -> io::Result<()> {
     match prefix {
-        Some(prefix) => show(rt, Shown(prefix)),
+        Some(prefix) => show(rt, prefix),
         None => show(rt, "none"),
     }
 }

@@ -1,5 +1,5 @@
 -- Policies as a text in one layout. Assumes nothing.
-use Rattle.std.specs.Prelude.{ℕ, zero, suc, ◌+◌, ◌/◌, ◌%◌, Bool, true, false, List, [], ◌∷◌, ◌++◌, Some, None, codes, decimal, Option, slice_index_or}
+use Rattle.std.specs.Prelude.{ℕ, zero, suc, ◌+◌, Bool, true, false, List, [], ◌∷◌, ◌++◌, Some, None, codes, decimal, Option, slice_index_or}
 use Rattle.std.specs.List.{flat_map}
 use Rattle.policy.specs.declared.Action.{Action}
 use Rattle.policy.specs.declared.Action.TheVariants as an_action
@@ -11,6 +11,7 @@ use Rattle.policy_tables.specs.Texts.{Content, direction_word, place_of}
 use Rattle.policy_tables.specs.declared.Direction.{Direction}
 use Rattle.policy_tables.specs.declared.Direction.TheVariants.{Import, Export}
 use Rattle.prefix.specs.Prefix.{Prefix}
+pub use Rattle.prefix.specs.Text.{prefix_text}
 
 abbrev pub line_end : List ℕ
 line_end = 10 ∷ []
@@ -18,12 +19,6 @@ line_end = 10 ∷ []
 -- policies know their lists by number, and not by the names that some text had for them: the lists are called l0, l1, ..
 abbrev pub name_text : ℕ → List ℕ
 name_text i = codes "l" ++ decimal i
-
--- the four bytes of the address with dots between them, a slash, and the length
-abbrev pub prefix_text : Prefix → List ℕ
-prefix_text p =
-    decimal (p.address / 16777216) ++ (codes "." ++ (decimal (p.address / 65536 % 256) ++ (codes "." ++ (decimal (p.address / 256 % 256)
-    ++ (codes "." ++ (decimal (p.address % 256) ++ (codes "/" ++ decimal p.length)))))))
 
 -- prefixes, with what stands before the first one, and a comma before each other
 unfoldable pub prefixes_text : List ℕ → List Prefix → List ℕ

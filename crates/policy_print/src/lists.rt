@@ -5,7 +5,6 @@ ghost use Rattle.policy_print.specs.Printed.{list_text, lists_text, prefixes_tex
 ghost use Rattle.policy_print.specs.Puts.{Puts};
 ghost use Rattle.prefix.specs.Meant.{meant};
 
-use crate::shown::Shown;
 use policy::PrefixList;
 use prefix::Prefix;
 use std::alloc::AllocError;
@@ -39,7 +38,6 @@ fn put_prefixes(text: &mut String, prefixes: &[Prefix]) -> Result<(), AllocError
 {
     let mut before = "";
     for prefix in prefixes {
-        let prefix = Shown(*prefix);
         write!(text, "{before}{prefix}")?;
         before = ", ";
     }

@@ -1,30 +1,13 @@
 //! Values of other crates as they stand in a text.
 ghost use Rattle.std.specs.Prelude.{Some};
-ghost use Rattle.policy_print.specs.Printed.{action_text, part_text, prefix_text, test_text};
-ghost use Rattle.prefix.specs.Meant.{meant};
+ghost use Rattle.policy_print.specs.Printed.{action_text, part_text, test_text};
 
 use policy::{Action, Part, Test};
-use prefix::Prefix;
 use std::fmt;
 
 /// A value of another crate, to be printed.
 #[derive(Clone, Copy)]
 pub(crate) struct Shown<T>(pub T);
-
-/// A prefix, as 10.0.0.0/8.
-impl fmt::Display for Shown<Prefix> {
-    ghost output = { λ x. Some (prefix_text (meant x.0)) };
-
-    fn fmt<W: fmt::Write>(&self, f: &mut fmt::Formatter<W>) -> fmt::Result {
-        let address = self.0.address();
-        let a = address / 16777216;
-        let b = address / 65536 % 256;
-        let c = address / 256 % 256;
-        let d = address % 256;
-        let length = self.0.length();
-        write!(f, "{a}.{b}.{c}.{d}/{length}")
-    }
-}
 
 impl fmt::Display for Shown<Part> {
     ghost output = { λ x. Some (part_text x.0) };

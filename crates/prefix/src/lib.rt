@@ -7,6 +7,7 @@ ghost use Rattle.prefix.specs.Prefix.{is_prefix};
 mod equality;
 mod methods;
 mod numbers;
+mod printing;
 
 pub use methods::prefix_laws;
 pub use numbers::{COUNT, number_laws};
