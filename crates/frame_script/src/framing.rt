@@ -19,11 +19,7 @@ pub fn put_message(out: &mut Vec<u8>, peer: u8, message: &[u8]) -> Result<(), Pr
 }
 
 /// A connection that comes up or breaks, in a frame.
-pub fn put_connection(
-    out: &mut Vec<u8>,
-    peer: u8,
-    connection: Connection,
-) -> Result<(), AllocError>
+pub fn put_connection(out: &mut Vec<u8>, peer: u8, connection: Connection) -> Result<(), AllocError>
     ensures { OnOk result (out.new.items ≡ out.old.items ++ connection_frame peer (connection_number connection)) }
 {
     out.extend_from_slice(&[u8::from(FrameKind::Connection), peer, u8::from(connection)])

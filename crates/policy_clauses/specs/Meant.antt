@@ -1,5 +1,5 @@
 -- What the code's answers stand for. Assumes nothing.
-use Rattle.std.specs.Prelude.{◌≡◌, ℕ, List, map, take, Result, MatchResult}
+use Rattle.std.specs.Prelude.{◌≡◌, ℕ, List, map, Result, MatchResult}
 use Rattle.rows.specs.Rows.{held}
 use Rattle.policy.specs.Meant.{parts_of}
 use Rattle.policy.specs.declared.Clause.{Clause}
