@@ -78,7 +78,10 @@ impl Situation {
         let route = plain_route(prefix, asns.as_slice(), metrics).context(
             "a path has 1 to 32 networks",
         )?;
-        ensure!(self.table.put(peer, &route).is_ok(), "there is no such peer");
+        ensure!(
+            self.table.put(peer, &route).is_ok(),
+            "there is no such peer"
+        );
         Ok(())
     }
 }
