@@ -101,8 +101,12 @@ absent_laws es peer prefix i rises byte at =
 pub silent : (es : List Entry) (prefix a b from until : ℕ) → NoneBetween es from until → from ≡ key_of a prefix → until ≡ key_of b prefix → Silent (received_of es) prefix a b
 silent es prefix a b from until none low high = record { none = λ i l h. none_between es i prefix from until none (λ small. omega arith) (λ small. omega arith) }
 
+-- where an entry stands, its peer has announced its prefix
+pub announced_at : (es : List Entry) (prefix peer i : ℕ) (e : Entry) → Rises es → i < length es → e ≡ get_or es i e → e.key ≡ key_of peer prefix → peer < 256 → is_route (received_of es peer prefix) ≡ true
+announced_at es prefix peer i e rises within is at byte = ap is_route (read es peer prefix i e rises byte within is at)
+
 pub announced : (es : List Entry) (prefix peer a b : ℕ) (e : Entry) → Rises es → FirstBetween es a b e → e.key ≡ key_of peer prefix → peer < 256 → is_route (received_of es peer prefix) ≡ true
-announced es prefix peer a b e rises first at byte = ap is_route (read es peer prefix first.place e rises byte first.within first.is at)
+announced es prefix peer a b e rises first at byte = announced_at es prefix peer first.place e rises first.within first.is at byte
 
 pub unannounced : (es : List Entry) (a b : ℕ) → NoneBetween es (a * 256) (b * 256) → Unannounced (received_of es) a b
 unannounced es a b none = record { none = λ i p l h. none_between es i p (a * 256) (b * 256) none (λ small. omega arith) (λ small. omega arith) }
@@ -113,11 +117,15 @@ lowest es a b e first =
     let low = first.low in
     (omega arith, record { none = λ j p l h. none_between es j p (a * 256) e.key first.lower (λ small. omega arith) (λ small. omega arith) })
 
-pub somebody : (es : List Entry) (a b : ℕ) (e : Entry) → Rises es → FirstBetween es a b e → Announced (received_of es) (number (meant e.route.prefix))
-somebody es a b e rises first =
+-- and so somebody has
+pub somebody_at : (es : List Entry) (i : ℕ) (e : Entry) → Rises es → i < length es → e ≡ get_or es i e → Announced (received_of es) (number (meant e.route.prefix))
+somebody_at es i e rises within is =
     let p = e.of_prefix in
     let small = e.of_peer in
-    record { peer = e.key % 256; has_route = ap is_route (read es (e.key % 256) (number (meant e.route.prefix)) first.place e rises (omega arith) first.within first.is (omega arith)) }
+    record { peer = e.key % 256; has_route = announced_at es (number (meant e.route.prefix)) (e.key % 256) i e rises within is (omega arith) (omega arith) }
+
+pub somebody : (es : List Entry) (a b : ℕ) (e : Entry) → Rises es → FirstBetween es a b e → Announced (received_of es) (number (meant e.route.prefix))
+somebody es a b e rises first = somebody_at es first.place e rises first.within first.is
 
 pub rises_cleared : (es : List Entry) (peer : ℕ) → Rises es → Rises (others peer es)
 rises_cleared es peer rises = AllPairs-filter (λ x y. x.key < y.key) (λ e. not (eqb (e.key % 256) peer)) es rises
