@@ -158,13 +158,13 @@ fn show_written<const ROOM: usize, F: FnOnce(&mut [u8]) -> Option<usize>>(
     requires fits { ROOM < 2 ^ 63 }
 {
     let mut buffer = [0xee; ROOM];
-    let told = write(&mut buffer);
+    let written = write(&mut buffer);
     print!(rt; "{name}: ")?;
-    let shown = told.map_or(ROOM, |count| count.saturating_add(1));
+    let shown = written.map_or(ROOM, |count| count.saturating_add(1));
     for byte in buffer.iter().take(shown) {
         print!(rt; "{byte:02x}")?;
     }
-    if told.is_none() {
+    if written.is_none() {
         print!(rt; " refused")?;
     }
     println!(rt; "")
