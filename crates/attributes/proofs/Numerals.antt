@@ -1,6 +1,7 @@
 -- Numbers of 4 bytes in a row of bytes. Assumes nothing.
-use Rattle.std.proofs.Common.{◌≡◌, ℕ, ◌+◌, ◌/◌, ◌<◌, ◌≤◌, List, [], ◌∷◌, ◌++◌, length, take, drop, Some, None, refl, arith, length-append, length-drop}
+use Rattle.std.proofs.Common.{◌≡◌, ℕ, ◌+◌, ◌/◌, ◌<◌, ◌≤◌, List, [], ◌∷◌, ◌++◌, length, take, drop, Some, None, refl, arith, length-append, length-drop, take_all}
 use Rattle.std.proofs.lemmas.List.{append-nil, append_assoc}
+use Rattle.std.proofs.Math.Seq.{take-append_seam}
 use Rattle.std.proofs.lemmas.Bool.Decides.{nat_tests}
 use Rattle.attributes.specs.Gathering.{with_numbers}
 use Rattle.wire.specs.Bytes.{numbers, u32_of}
@@ -54,5 +55,24 @@ module _ (room : ℕ) (ns bs : List ℕ) where
       let z : room < length ns + length (numbers bs) = omega arith in
       grind (arith, nat_tests)
 
+  -- as many as there is room for
+  pub front_none : length bs < 4 → length ns ≤ room → take room (ns ++ numbers bs) ≡ ns
+  front_none h l =
+      let none = numbers_end bs h in
+      let whole = append-nil ns in
+      let all = take_all room ns l in
+      cc
+
+  pub front_more : 4 ≤ length bs → take room ((ns ++ u32_of (take 4 bs) ∷ []) ++ numbers (drop 4 bs)) ≡ take room (ns ++ numbers bs)
+  front_more h =
+      let first = number_first bs h in
+      let joined = append_assoc ns (u32_of (take 4 bs) ∷ []) (numbers (drop 4 bs)) in
+      cc
+
+  pub front_full : length ns ≡ room → take room (ns ++ numbers bs) ≡ ns
+  front_full l =
+      let front = take-append_seam ns (numbers bs) in
+      cc
+
 -- the numbers of a row of bytes one by one
-pub ruleset numbering = (with_none, with_more, with_full, length-drop)
+pub ruleset numbering = (with_none, with_more, with_full, front_none, front_more, front_full, length-drop)

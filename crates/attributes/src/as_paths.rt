@@ -5,7 +5,7 @@ ghost use Rattle.attributes.specs.Gathering.{read_segments, starting_with, with_
 ghost use Rattle.attributes.specs.Meant.{numbers_of, reading_of};
 ghost use Rattle.route.specs.Meant.{asns_of};
 
-use crate::numbers::with_numbers;
+use crate::numbers::push_numbers;
 use arrayvec::ArrayVec;
 use fault::Fault;
 use route::Path;
@@ -46,7 +46,7 @@ fn read_segments(value: &[u8]) -> Result<Networks, Fault>
     let mut rest = value;
     while !rest.is_empty() {
         let (segment, after) = cut(rest, segment_size(rest)).ok_or(Fault::Attribute)?;
-        asns = with_segment(asns, segment);
+        add_segment(&mut asns, segment);
         rest = after;
     }
     asns.ok_or(Fault::Value)
@@ -59,17 +59,17 @@ fn segment_size(segments: &[u8]) -> usize
     2 + 4 * usize::from(byte_at(segments, 1))
 }
 
-/// The networks with those of a segment behind them; none is left of a path that has a wrong segment or is too long.
+/// Puts the networks of a segment behind the others; none is left of a path that has a wrong segment or is too long.
 #[tactic(auto, using(crate::proofs::Segments::one_more))]
-fn with_segment(asns: Option<Networks>, segment: &[u8]) -> Option<Networks>
-    requires { IfSome asns (λ r. length (numbers_of r) ≤ 32) }
-    ensures within { IfSome result (λ r. length (numbers_of r) ≤ 32) }
-    ensures asns { option_map numbers_of result ≡ with_segment 32 (option_map numbers_of asns) segment.now }
+fn add_segment(asns: &mut Option<Networks>, segment: &[u8])
+    requires { IfSome asns.old (λ r. length (numbers_of r) ≤ 32) }
+    ensures within { IfSome asns.new (λ r. length (numbers_of r) ≤ 32) }
+    ensures asns { option_map numbers_of asns.new ≡ with_segment 32 (option_map numbers_of asns.old) segment.now }
 {
-    let asns = asns?;
+    let Some(row) = asns else { return };
     let networks = skip(segment, 2);
-    if byte_at(segment, 0) != SEQUENCE || networks.len() < 4 {
-        return None;
+    let is_sequence = byte_at(segment, 0) == SEQUENCE && networks.len() >= 4;
+    if !is_sequence || push_numbers(row, networks).is_err() {
+        *asns = None;
     }
-    with_numbers(asns, networks)
 }

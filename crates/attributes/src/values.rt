@@ -8,7 +8,7 @@ ghost use Rattle.wire.specs.Bytes.{numbers, u32_of};
 
 use crate::as_paths::read_path;
 use crate::kinds::{has_form, value_of};
-use crate::numbers::with_numbers;
+use crate::numbers::push_numbers;
 use crate::{Kind, Peer, Value};
 use arrayvec::ArrayVec;
 use fault::Fault;
@@ -55,8 +55,8 @@ fn read_next_hop(value: &[u8], address: u32) -> Result<Value, Fault>
 fn read_communities(value: &[u8]) -> Result<Value, Fault>
     ensures { reading_of meaning_of result ≡ (if nat_le (length (numbers value.now)) 8 then got (InCommunities (sorted (numbers value.now))) else failed 6) }
 {
-    let row = ArrayVec::<u32, 8>::new();
-    let row = with_numbers(row, value).ok_or(Fault::Value)?;
+    let mut row = ArrayVec::<u32, 8>::new();
+    push_numbers(&mut row, value)?;
     let communities = Communities::of(row.as_slice()).ok_or(Fault::Value)?;
     Ok(Value::Communities(communities))
 }
