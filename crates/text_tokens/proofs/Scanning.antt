@@ -1,13 +1,10 @@
 -- The steps of scanning. Assumes nothing.
-use Rattle.std.proofs.Common.{◌≡◌, ℕ, zero, suc, ◌+◌, ◌-◌, ◌<◌, ◌≤◌, Bool, true, false, List, [], ◌∷◌, ◌++◌, length, get_or, take, drop, sym, refl, ap, ◌∙◌, ⊎_elim, arith, length-drop}
+use Rattle.std.proofs.Common.{◌≡◌, ℕ, zero, suc, ◌+◌, ◌-◌, ◌<◌, ◌≤◌, Bool, false, List, [], ◌∷◌, ◌++◌, length, get_or, take, drop, sym, refl, ap, ◌∙◌, ⊎_elim, arith, length-drop}
 use Rattle.std.proofs.lemmas.List.{at_drop_more, at_drop_all, take_more, get_or-drop}
-use Rattle.std.proofs.lemmas.List.Folds.{length-prefix_len}
-use Rattle.std.proofs.lemmas.List.Sums.{prefix_len-drop_yes, prefix_len-le-length, prefix_len_passes, prefix_len_stops}
-use Rattle.std.proofs.lemmas.Bool.{cases_lt, false≢true}
-use Rattle.std.specs.List.{prefix_len, take_while}
+use Rattle.std.proofs.lemmas.Bool.{cases_lt}
 use Rattle.text_tokens.specs.declared.Class.{Class}
 use Rattle.text_tokens.specs.declared.Class.TheVariants.{Blank, LineEnd, Hash, Sign, Letter}
-use Rattle.text_tokens.specs.Tokens.{Source, Mode, Between, InWord, Run, class_of, is_letter, is_letter_class, after, whole, worded, ended, scan}
+use Rattle.text_tokens.specs.Tokens.{Source, Mode, Between, InWord, Run, class_of, after, whole, worded, ended, scan}
 
 pub scan_none : (m : Mode) (n : ℕ) (text : List ℕ) → length text ≤ n → scan m n (drop n text) ≡ ended m n
 unfolding scan
@@ -64,30 +61,6 @@ module _ (text : List ℕ) (start end : ℕ) (fresh : Bool) (run : Run text star
       ∙ ap (λ c. whole m start c (scan (after m start (get_or text start 0) c) (start + 1) (drop (start + 1) text))) (run.all start (omega arith) run.some)
       ∙ ap (λ w. scan (InWord start fresh w) (start + 1) (drop (start + 1) text)) (ap (λ i. take i (drop start text) ++ (get_or text start 0 ∷ [])) (sym none_yet) ∙ letter start (omega arith) run.some)
       ∙ goes (end - (start + 1)) (start + 1) (omega (arith, run.some)) (omega arith)
-
-letter_is : (c : Class) → is_letter_class c ≡ true → c ≡ Letter
-letter_is Letter h = refl
-letter_is Blank h = absurd (false≢true h)
-letter_is LineEnd h = absurd (false≢true h)
-letter_is Hash h = absurd (false≢true h)
-letter_is (Sign s) h = absurd (false≢true h)
-
--- the letters from one on are a word
-pub run_of : (text : List ℕ) (start n : ℕ) → start < length text → class_of (get_or text start 0) ≡ Letter → n ≡ length (take_while is_letter (drop start text)) → Run text start (start + n)
-run_of text start n within first e =
-    let rest : List ℕ = drop start text in
-    let same : n ≡ prefix_len is_letter rest = e ∙ length-prefix_len is_letter rest in
-    let at : (k : ℕ) → get_or rest k 0 ≡ get_or text (start + k) 0 = λ k. get_or-drop start text k 0 in
-    record {
-      some = omega (arith, same, prefix_len-drop_yes is_letter text start 0 within (ap is_letter_class first));
-      within = omega (arith, same, within, prefix_len-le-length is_letter rest, length-drop start text);
-      all = λ k h l.
-          let there : start + (k - start) ≡ k = omega arith in
-          letter_is _ (sym (ap is_letter (at (k - start) ∙ ap (λ i. get_or text i 0) there)) ∙ prefix_len_passes is_letter rest (k - start) 0 (omega (arith, same)));
-      stops = λ h l.
-          let no = prefix_len_stops is_letter rest 0 (omega (arith, same, length-drop start text)) in
-          absurd (false≢true (sym (ap (λ i. is_letter (get_or rest i 0)) same ∙ no) ∙ ap is_letter (at n) ∙ ap is_letter_class l));
-    }
 
 -- a word is one token
 pub scan_word : (text : List ℕ) (start end : ℕ) (fresh : Bool) → Run text start end → scan (Between fresh) start (drop start text) ≡ worded start fresh (take (end - start) (drop start text)) (scan (Between false) end (drop end text))

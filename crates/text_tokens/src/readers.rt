@@ -1,5 +1,5 @@
 //! Pulling one token at a time.
-ghost use Rattle.std.specs.Prelude.{◌≡◌, ◌<◌, false, length, drop, slice_index, take_while};
+ghost use Rattle.std.specs.Prelude.{◌≡◌, ◌<◌, false, length, drop, slice_index};
 ghost use Rattle.text_tokens.specs.Meant.{left, pulled, pulled_as};
 ghost use Rattle.text_tokens.specs.Tokens.{Begins, Between, Run, class_of, is_letter, scan, tokens};
 
@@ -53,14 +53,13 @@ fn word_end(text: &[u8], start: usize) -> usize
     requires { (start < length text.now) × (class_of (slice_index text.now start) ≡ Class.Letter) }
     ensures { Run text.now start result }
 {
-    start + letters(&text[start..])
-}
-
-/// How many bytes in front can stand in a word.
-fn letters(bytes: &[u8]) -> usize
-    ensures { result ≡ length (take_while is_letter bytes.now) }
-{
-    bytes.iter().take_while(|byte| is_letter(**byte)).count()
+    // by places, since the place is the answer
+    for at in start + 1..text.len() {
+        if !is_letter(text[at]) {
+            return at;
+        }
+    }
+    text.len()
 }
 
 fn is_letter(byte: u8) -> bool
