@@ -74,19 +74,17 @@ fn show_attributes(rt: &HostRuntime, attributes: Attributes) -> io::Result<()> {
     show_numbers(rt, attributes.communities.as_slice())
 }
 
-fn show_fault(rt: &HostRuntime, fault: Fault) -> io::Result<()> {
+/// Prints the fault behind the sign.
+fn show_fault(rt: &HostRuntime, sign: &str, fault: Fault) -> io::Result<()> {
     let code = u8::from(fault);
-    print!(rt; " fault {code}")
+    print!(rt; "{sign} fault {code}")
 }
 
 fn show_content(rt: &HostRuntime, content: Content) -> io::Result<()> {
     match content {
         Content::Announces(attributes) => show_attributes(rt, attributes),
         Content::Withdraws => print!(rt; ": nothing announced"),
-        Content::Faulty(fault) => {
-            print!(rt; ":")?;
-            show_fault(rt, fault)
-        }
+        Content::Faulty(fault) => show_fault(rt, ":", fault),
     }
 }
 
@@ -127,7 +125,7 @@ fn show(rt: &HostRuntime, who: &str, bytes: &[u8]) -> io::Result<()> {
     };
     match read(state, peer, bytes) {
         Ok(message) => show_message(rt, message, bytes),
-        Err(fault) => show_fault(rt, fault),
+        Err(fault) => show_fault(rt, "", fault),
     }
 }
 
