@@ -16,7 +16,7 @@ use prefix::Prefix;
 use selection::{Candidate, PolicySource, export};
 
 /// What was offered of a prefix before, and what is now; to whom, and by which policies.
-#[derive(Drop)]
+#[derive_where(Clone, Copy)]
 pub struct Offers<'a, P: PolicySource> {
     pub prefix: Prefix,
     pub old: Option<Candidate>,
