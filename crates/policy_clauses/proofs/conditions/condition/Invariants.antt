@@ -10,4 +10,4 @@ abbrev pub invariant-loop-part : goal.invariant-loop-part
 invariant-loop-part l = (parts (15 - length (parts_of l.condition)) (names_of l.names) (parts_of l.condition) (left l.reader) ≡ parts 15 (names_of l.names) [] (left l.initial.reader)) × (length (parts_of l.condition) ≤ 15)
 
 abbrev pub decreases-loop-part : goal.decreases-loop-part
-decreases-loop-part l = 15 - length (parts_of l.condition)
+decreases-loop-part l = 16 - length (parts_of l.condition)

@@ -9,4 +9,4 @@ abbrev pub invariant-loop-prefix : goal.invariant-loop-prefix
 invariant-loop-prefix l = (prefixes (63 - length (prefixes_of l.list)) (prefixes_of l.list) (left l.reader) ≡ prefixes 63 [] (left l.initial.reader)) × (length (prefixes_of l.list) ≤ 63)
 
 abbrev pub decreases-loop-prefix : goal.decreases-loop-prefix
-decreases-loop-prefix l = 63 - length (prefixes_of l.list)
+decreases-loop-prefix l = 64 - length (prefixes_of l.list)
